@@ -1,0 +1,95 @@
+-- Demands 2 and 3 as statements over the definitions of dealing and opening. Not yet proved.
+--
+-- Nothing is assumed of the secret and the random words but that dealing accepts them, and nothing of what is handed in but its
+-- length, its mask and its quorum: its words may be any numbers, also those of absent members.
+use Prim.Native.Nat.{ℕ, suc, _*_, _/_, _^_, _≤_, _<_}
+use mathlib.Core.Path.{_≡_}
+use mathlib.Core.Logic.{_⊎_}
+use mathlib.Core.Bool.{Bool, _&&_, not}
+use mathlib.Core.List.{List}
+use lib.Dec.{T, eqb}
+use lib.ListN.{length}
+use Rattle.lists.specs.Tabulate.{all}
+use Rattle.members.specs.Members.{size, ownPoints, has, setOf, card}
+use Rattle.shares.specs.Layout.{width, word}
+use Rattle.pruning.specs.Pruning.{Largest}
+use Rattle.decoding.specs.Decoding.{surplus, agreeing, Fits}
+use Rattle.dealing.specs.Dealing.{deal}
+use Rattle.reconstruction.specs.Votes.{usable, voteRows}
+use Rattle.reconstruction.specs.Reconstruction.{Opened, isQuorum, required, atZero, reconstruct}
+
+-- dealing accepts the secret and the random words, and writes the dealt words
+pub record Dealing (t : ℕ) (secret random dealt : List ℕ) : Type 0 where
+  pub buffer : List ℕ
+  pub accepted : deal t secret random buffer ≡ record { number = 0; shares = dealt }
+
+-- what is handed in to opening for d words: n shares, a mask of the n members, and a quorum that is met
+pub record HandedIn (t d present quorum : ℕ) (words : List ℕ) : Type 0 where
+  pub n-shares : length words ≡ size t * width t d
+  pub n-members : present < 2 ^ size t
+  pub is-quorum : T (isQuorum t quorum)
+  pub met : required t quorum ≤ card (size t) (usable t d present words)
+
+-- member i's share is handed in as dealt: it is present, and each of its words is the one that dealing wrote there
+pub record AsDealt (t d present : ℕ) (dealt words : List ℕ) (i : ℕ) : Type 0 where
+  pub is-present : T (has present i)
+  pub same : (k : ℕ) → k < width t d → word t d words i k ≡ word t d dealt i k
+
+-- the members of a set with altered share words: at least one of the d is not the dealt one
+unfoldable pub altered : ℕ → ℕ → List ℕ → List ℕ → ℕ → ℕ
+altered t d dealt words set =
+    setOf (size t) (λ i. has set i && not (all d (λ k. eqb (word t d words i k) (word t d dealt i k))))
+
+-- polynomials of degree at most t that enough members of a set agree with, by their share words; and the members that agree
+abbrev pub Fitting : ℕ → ℕ → List ℕ → ℕ → (ℕ → List ℕ) → Type 0
+Fitting t d words set f = Fits (ownPoints t) t d (word t d words) set f
+
+abbrev pub agreed : ℕ → ℕ → List ℕ → ℕ → (ℕ → List ℕ) → ℕ
+agreed t d words set f = agreeing (ownPoints t) t d (word t d words) set f
+
+-- what demand 3 says of the answer of opening
+pub record Sound (t d present : ℕ) (secret dealt words : List ℕ) (answer : Opened) : Type 0 where
+  -- the survivors are the largest set for the votes of what is handed in, and hold every member as dealt
+  pub largest : Largest t (voteRows t d (usable t d present words) words) (answer .survivors)
+  pub holds : (i : ℕ) → i < size t → AsDealt t d present dealt words i → T (has (answer .survivors) i)
+  -- opening opens, or refuses with 16, and with 16 exactly where no polynomials of degree at most t have enough survivors agreeing
+  pub opens-or-16 : (answer .number ≡ 0) ⊎ (answer .number ≡ 16)
+  pub refuses-only : answer .number ≡ 16 → (f : ℕ → List ℕ) → ¬ Fitting t d words (answer .survivors) f
+  pub refuses-if : ((f : ℕ → List ℕ) → ¬ Fitting t d words (answer .survivors) f) → answer .number ≡ 16
+  pub opens-only : answer .number ≡ 0 → (f : ℕ → List ℕ) × Fitting t d words (answer .survivors) f
+  -- the answer is the only one: any two choices have the same values at 0 and the same agreeing survivors, and those are the answer
+  pub only :
+      (f g : ℕ → List ℕ) → Fitting t d words (answer .survivors) f
+      → Fitting t d words (answer .survivors) g
+      → (atZero d f ≡ atZero d g)
+      × (agreed t d words (answer .survivors) f ≡ agreed t d words (answer .survivors) g)
+  pub answers :
+      (f : ℕ → List ℕ) → Fitting t d words (answer .survivors) f
+      → (answer .number ≡ 0)
+      × (answer .secret ≡ atZero d f)
+      × (answer .agreeing ≡ agreed t d words (answer .survivors) f)
+  -- the dealt secret, where the survivors with altered share words are at most half the surplus
+  pub dealt-secret :
+      card (size t) (altered t d dealt words (answer .survivors)) ≤ surplus t (card (size t) (answer .survivors)) / 2
+      → (answer .number ≡ 0) × (answer .secret ≡ secret)
+
+-- Demand 2: the present members are at least t + 1 and meet the quorum, and their shares are as dealt. Then all of them survive and agree,
+-- and the answer is the secret.
+unfoldable pub Demand2 : Type 0
+Demand2 =
+    (t present quorum : ℕ) (secret random dealt words : List ℕ)
+    → Dealing t secret random dealt
+    → HandedIn t (length secret) present quorum words
+    → ((i : ℕ) → i < size t → T (has present i) → AsDealt t (length secret) present dealt words i)
+    → reconstruct t (length secret) present quorum words
+    ≡ record { number = 0; survivors = present; agreeing = present; secret = secret }
+
+-- Demand 3: at least t + 1 shares are handed in as dealt and the quorum is met, whatever was done to the others.
+unfoldable pub Demand3 : Type 0
+Demand3 =
+    (t present quorum : ℕ) (secret random dealt words : List ℕ)
+    → Dealing t secret random dealt
+    → HandedIn t (length secret) present quorum words
+    → (honest : ℕ) → suc t ≤ card (size t) honest
+    → ((i : ℕ) → i < size t → T (has honest i) → AsDealt t (length secret) present dealt words i)
+    → Sound t (length secret) present secret dealt words (reconstruct t (length secret) present quorum words)

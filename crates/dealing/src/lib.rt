@@ -1,0 +1,1 @@
+// Dealing: secret and random words to shares. Definitions only, so far.

@@ -1,0 +1,1 @@
+// Decoding one word: the polynomial that enough members meet. Definitions only, so far.

@@ -1,0 +1,1 @@
+// Arithmetic modulo the prime 65521. Definitions only, so far.

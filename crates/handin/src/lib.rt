@@ -1,0 +1,1 @@
+// The reader of hand-in text. Definitions only, so far.

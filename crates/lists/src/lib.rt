@@ -1,0 +1,1 @@
+// Lists, tests and counts that the definitions are written with. No code.

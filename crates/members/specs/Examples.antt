@@ -1,0 +1,23 @@
+-- Corners of sets of members. Proved in proofs/Examples.antt.
+use Prim.Native.Nat.{_-_, _^_}
+use mathlib.Core.Path.{_≡_}
+use mathlib.Core.Bool.{true, false}
+use mathlib.Core.List.{[], _∷_}
+use lib.Dec.{eqb, ltb}
+use Rattle.members.specs.Members.{size, ownPoints, has, setOf, isSet, card, membersOf}
+
+pub record Examples : Type 0 where
+  -- document 01's member 1 has the value 1, member 2 the value 2, member 3 the value 4
+  pub first-member : setOf 3 (λ i. eqb i 0) ≡ 1
+  pub second-member : setOf 3 (λ i. eqb i 1) ≡ 2
+  pub third-member : setOf 3 (λ i. eqb i 2) ≡ 4
+  pub has-third : has 4 2 ≡ true
+  pub has-not-second : has 5 1 ≡ false
+  pub all-31 : setOf 31 (λ i. true) ≡ 2 ^ 31 - 1
+  pub count-31 : card 31 (2 ^ 31 - 1) ≡ 31
+  pub list-of-21 : membersOf 5 21 ≡ 0 ∷ 2 ∷ 4 ∷ []
+  -- bits beyond the members: for n = 31 only bit 31 is
+  pub full-is-set : isSet 31 (2 ^ 31 - 1) ≡ true
+  pub beyond-is-not : isSet 31 (2 ^ 31) ≡ false
+  pub largest-station : size 15 ≡ 31
+  pub points-of-5 : ownPoints 2 ≡ 1 ∷ 2 ∷ 3 ∷ 4 ∷ 5 ∷ []

@@ -1,0 +1,46 @@
+-- A station's members, and sets of them as masks. Here members are counted from 0: document 01's member i is i − 1, with the value 2 ^ (i − 1).
+-- Assumes nothing.
+use Prim.Native.Nat.{ℕ, zero, suc, _+_, _*_, _/_, _%_, _^_}
+use mathlib.Core.Bool.{Bool, cond, _&&_}
+use mathlib.Core.List.{List}
+use lib.Dec.{eqb, ltb}
+use Rattle.lists.specs.Tabulate.{tab, count, keep}
+use Rattle.lists.specs.Checks.{within}
+
+-- t is 1 to 15
+abbrev pub isThreshold : ℕ → Bool
+isThreshold t = within 1 15 t
+
+-- how many members a station has: n = 2t + 1
+unfoldable pub size : ℕ → ℕ
+size t = 2 * t + 1
+
+-- the members' own points, 1 to n
+unfoldable pub ownPoints : ℕ → List ℕ
+ownPoints t = tab (size t) (λ i. suc i)
+
+-- the binary digit of a mask at i
+unfoldable pub bit : ℕ → ℕ → ℕ
+bit zero mask = mask % 2
+bit (suc i) mask = bit i (mask / 2)
+
+-- member i is in the set
+unfoldable pub has : ℕ → ℕ → Bool
+has mask i = eqb (bit i mask) 1
+
+-- the set of those of n members that pass the test
+unfoldable pub setOf : ℕ → (ℕ → Bool) → ℕ
+setOf zero test = 0
+setOf (suc n) test = cond (test 0) 1 0 + 2 * setOf n (λ i. test (suc i))
+
+-- the mask has no bit beyond the n members
+abbrev pub isSet : ℕ → ℕ → Bool
+isSet n mask = ltb mask (2 ^ n)
+
+-- how many of n members are in the set
+unfoldable pub card : ℕ → ℕ → ℕ
+card n mask = count n (has mask)
+
+-- those of n members that are in the set, in order
+unfoldable pub membersOf : ℕ → ℕ → List ℕ
+membersOf n mask = keep (has mask) (tab n (λ i. i))

@@ -1,0 +1,1 @@
+// Sets of members as masks. Definitions only, so far.

@@ -1,0 +1,1 @@
+// Polynomials over the field: evaluation and interpolation. Definitions only, so far.

@@ -1,0 +1,1 @@
+// Vote rows to survivors. Definitions only, so far.

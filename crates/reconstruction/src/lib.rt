@@ -1,0 +1,1 @@
+// Reconstruction (document 01: opening): shares to the secret. Definitions only, so far.

@@ -1,0 +1,40 @@
+-- What the program prints for document 01's examples, and for each refusal that a text can lead to. Proved in proofs/Examples.antt.
+use Prim.Native.Nat.{ℕ, _-_, _^_}
+use Prim.Native.String.{String}
+use mathlib.Core.Path.{_≡_}
+use mathlib.Core.List.{List, _++_}
+use lib.ListN.{replicate}
+use Rattle.lists.specs.Ascii.{ascii}
+use Rattle.handin.specs.Sample.{lineD, line1, line2, sampleText, keylessText}
+use Rattle.report.specs.Report.{digits, report}
+
+abbrev pub prints : List ℕ → String → Type 0
+prints text output = report text ≡ ascii output
+
+-- C9: the sample text
+abbrev pub C9Printed : Type 0
+C9Printed = prints sampleText "OPEN\t3\t3\nWORD\t1\t250\n"
+
+-- C10: no polynomial, survivors 7
+abbrev pub C10Printed : Type 0
+C10Printed = prints keylessText "REFUSED\t16\t7\n"
+
+pub record Examples : Type 0 where
+  pub c9-printed : C9Printed
+  pub c10-printed : C10Printed
+  -- d = 2: a line for each word
+  pub two-words :
+      prints (ascii "D\t1\t2\t0\nP\t1\t5\t65520\t0\t0\t0\t0\t0\t0\t0\t0\t0\nP\t3\t5\t65520\t0\t0\t0\t0\t0\t0\t0\t0\t0\n")
+      "OPEN\t5\t5\nWORD\t1\t5\nWORD\t2\t65520\n"
+  pub refused-13 : prints (ascii "D\t1\t1\t1\n") "REFUSED\t13\t0\n"
+  pub refused-14 : prints lineD "REFUSED\t14\t0\n"
+  pub refused-15 : prints (lineD ++ line1 ++ ascii "P\t2\t256\t0\t514\t770\t2\t1\t2\t2\t2\t3\n") "REFUSED\t15\t0\n"
+  pub refused-21 : prints (replicate 40001 0) "REFUSED\t21\t0\n"
+  pub refused-22 : prints (ascii "") "REFUSED\t22\t0\n"
+  pub refused-23 : prints (lineD ++ ascii "\n") "REFUSED\t23\t0\n"
+  pub refused-24 : prints (lineD ++ line1 ++ line2 ++ line1) "REFUSED\t24\t0\n"
+  -- numerals: 0, the largest mask of members, the largest of 32 bits
+  pub numeral-0 : digits 10 0 ≡ ascii "0"
+  pub numeral-10 : digits 10 10 ≡ ascii "10"
+  pub numeral-mask : digits 10 (2 ^ 31 - 1) ≡ ascii "2147483647"
+  pub numeral-largest : digits 10 (2 ^ 32 - 1) ≡ ascii "4294967295"

@@ -1,0 +1,1 @@
+// What the program `opening` prints for a text. Definitions only, so far.

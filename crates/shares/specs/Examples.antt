@@ -1,0 +1,20 @@
+-- Corners of the layout of shares. Proved in proofs/Examples.antt.
+use Prim.Native.Nat.{_*_}
+use mathlib.Core.Path.{_≡_}
+use mathlib.Core.List.{[], _∷_}
+use Rattle.members.specs.Members.{size}
+use Rattle.shares.specs.Layout.{width, word, shareWords, tagWord, keyα, keyβ}
+use Rattle.shares.specs.Sample.{sample}
+
+pub record Examples : Type 0 where
+  -- the longest share, and the largest buffer
+  pub longest : width 15 64 ≡ 157
+  pub largest : size 15 * width 15 64 ≡ 4867
+  -- the sample's words: tag(2,1), key(3,2), the share words of member 3
+  pub tag-2-1 : tagWord 1 1 (sample 259) 1 0 ≡ 258
+  pub key-3-2-α : keyα 1 1 (sample 259) 2 1 ≡ 3
+  pub key-3-2-β : keyβ 1 1 (sample 259) 2 1 ≡ 2
+  pub share-words : shareWords 1 1 (sample 259) 2 ≡ 259 ∷ []
+  -- d = 2: the second share word, the first tag
+  pub second-word : word 1 2 (0 ∷ 1 ∷ 2 ∷ []) 0 1 ≡ 1
+  pub first-tag : tagWord 1 2 (0 ∷ 1 ∷ 2 ∷ []) 0 0 ≡ 2
