@@ -5,9 +5,9 @@
 use Prim.Native.Nat.{ℕ, suc, _*_, _/_, _^_, _≤_, _<_}
 use mathlib.Core.Path.{_≡_}
 use mathlib.Core.Logic.{_⊎_}
-use mathlib.Core.Bool.{Bool, _&&_, not}
+use mathlib.Core.Bool.{Bool, true, _&&_, not}
 use mathlib.Core.List.{List}
-use lib.Dec.{T, eqb}
+use lib.Dec.{eqb}
 use lib.ListN.{length}
 use Rattle.lists.specs.Tabulate.{all}
 use Rattle.members.specs.Members.{size, ownPoints, has, setOf, card}
@@ -27,12 +27,12 @@ pub record Dealing (t : ℕ) (secret random dealt : List ℕ) : Type 0 where
 pub record HandedIn (t d present quorum : ℕ) (words : List ℕ) : Type 0 where
   pub n-shares : length words ≡ size t * width t d
   pub n-members : present < 2 ^ size t
-  pub is-quorum : T (isQuorum t quorum)
+  pub is-quorum : isQuorum t quorum ≡ true
   pub met : required t quorum ≤ card (size t) (usable t d present words)
 
 -- member i's share is handed in as dealt: it is present, and each of its words is the one that dealing wrote there
 pub record AsDealt (t d present : ℕ) (dealt words : List ℕ) (i : ℕ) : Type 0 where
-  pub is-present : T (has present i)
+  pub is-present : has present i ≡ true
   pub same : (k : ℕ) → k < width t d → word t d words i k ≡ word t d dealt i k
 
 -- the members of a set with altered share words: at least one of the d is not the dealt one
@@ -51,7 +51,7 @@ agreed t d words set f = agreeing (ownPoints t) t d (word t d words) set f
 pub record Sound (t d present : ℕ) (secret dealt words : List ℕ) (answer : Opened) : Type 0 where
   -- the survivors are the largest set for the votes of what is handed in, and hold every member as dealt
   pub largest : Largest t (voteRows t d (usable t d present words) words) (answer .survivors)
-  pub holds : (i : ℕ) → i < size t → AsDealt t d present dealt words i → T (has (answer .survivors) i)
+  pub holds : (i : ℕ) → i < size t → AsDealt t d present dealt words i → has (answer .survivors) i ≡ true
   -- opening opens, or refuses with 16, and with 16 exactly where no polynomials of degree at most t have enough survivors agreeing
   pub opens-or-16 : (answer .number ≡ 0) ⊎ (answer .number ≡ 16)
   pub refuses-only : answer .number ≡ 16 → (f : ℕ → List ℕ) → ¬ Fitting t d words (answer .survivors) f
@@ -80,7 +80,7 @@ Demand2 =
     (t present quorum : ℕ) (secret random dealt words : List ℕ)
     → Dealing t secret random dealt
     → HandedIn t (length secret) present quorum words
-    → ((i : ℕ) → i < size t → T (has present i) → AsDealt t (length secret) present dealt words i)
+    → ((i : ℕ) → i < size t → has present i ≡ true → AsDealt t (length secret) present dealt words i)
     → reconstruct t (length secret) present quorum words
     ≡ record { number = 0; survivors = present; agreeing = present; secret = secret }
 
@@ -91,5 +91,5 @@ Demand3 =
     → Dealing t secret random dealt
     → HandedIn t (length secret) present quorum words
     → (honest : ℕ) → suc t ≤ card (size t) honest
-    → ((i : ℕ) → i < size t → T (has honest i) → AsDealt t (length secret) present dealt words i)
+    → ((i : ℕ) → i < size t → has honest i ≡ true → AsDealt t (length secret) present dealt words i)
     → Sound t (length secret) present secret dealt words (reconstruct t (length secret) present quorum words)

@@ -1,1 +1,4 @@
--- Laws of this crate.
+-- Laws of lists, tests and counts over the first n numbers.
+pub mod Bools
+pub mod Tabulate
+pub mod Count

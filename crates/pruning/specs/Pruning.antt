@@ -1,9 +1,10 @@
 -- Pruning (document 01, 'Votes and pruning'). Row i of the votes is the set of those who accept member i.
 -- Assumes nothing.
 use Prim.Native.Nat.{ℕ, zero, suc, _≤_, _<_, _^_}
+use mathlib.Core.Path.{_≡_}
 use mathlib.Core.Bool.{Bool, true, _&&_}
 use mathlib.Core.List.{List, [], _∷_}
-use lib.Dec.{T, leb, eqb}
+use lib.Dec.{leb, eqb}
 use lib.ListN.{length, getD}
 use Rattle.lists.specs.Tabulate.{count, each}
 use Rattle.lists.specs.Checks.{_unless_, checked}
@@ -27,13 +28,13 @@ survivors t rows = rounds (size t) t rows (setOf (size t) (λ i. true))
 
 -- every member of the set is accepted by at least t + 1 members of it
 pub record Closed (t : ℕ) (rows : List ℕ) (set : ℕ) : Type 0 where
-  pub accepted : (i : ℕ) → i < size t → T (has set i) → suc t ≤ votes t rows set i
+  pub accepted : (i : ℕ) → i < size t → has set i ≡ true → suc t ≤ votes t rows set i
 
 -- the largest such set, as document 01 defines the survivors: it is one, and every other is contained in it
 pub record Largest (t : ℕ) (rows : List ℕ) (set : ℕ) : Type 0 where
   pub below : set < 2 ^ size t
   pub closed : Closed t rows set
-  pub contains : (other : ℕ) → other < 2 ^ size t → Closed t rows other → (i : ℕ) → i < size t → T (has other i) → T (has set i)
+  pub contains : (other : ℕ) → other < 2 ^ size t → Closed t rows other → (i : ℕ) → i < size t → has other i ≡ true → has set i ≡ true
 
 -- what pruning answers: 0 or the refusal's number, and the survivors
 pub record Pruned : Type 0 where

@@ -1,0 +1,81 @@
+-- Laws of `count`.
+-- Assumes nothing.
+use mathlib.Core.Path.{_≡_, refl, sym, ap, ap₂, _∙_, subst}
+use mathlib.Core.Logic.{inl, inr}
+use mathlib.Core.Bool.{Bool, true, false, _&&_, not, cond, false≢true}
+use Prim.Native.Nat.{ℕ, zero, suc, _+_, _≤_, _<_, zero-le, suc-le-suc}
+use native.Mathlib.Nat.{not-suc-le-zero, le-of-suc-le-suc}
+use native.Mathlib.Omega.{arith}
+use Rattle.lists.specs.Tabulate.{count}
+use Rattle.lists.proofs.Bools.{test}
+
+-- a test as a number: 1 where it passes
+abbrev pub toℕ : Bool → ℕ
+toℕ b = cond b 1 0
+
+pub toℕ-le : (b : Bool) → toℕ b ≤ 1
+toℕ-le true = omega arith
+toℕ-le false = omega arith
+
+pub toℕ-mono : (a b : Bool) → (a ≡ true → b ≡ true) → toℕ a ≤ toℕ b
+toℕ-mono true true h = omega arith
+toℕ-mono true false h = absurd (false≢true (h refl))
+toℕ-mono false b h = zero-le
+
+pub count-le : (n : ℕ) (p : ℕ → Bool) → count n p ≤ n
+unfolding count
+count-le zero p = zero-le
+count-le (suc n) p = omega (arith, toℕ-le (p 0), count-le n (λ i. p (suc i)))
+
+-- a test that passes wherever another does passes at least as often
+pub count-mono : (n : ℕ) (p q : ℕ → Bool) → ((i : ℕ) → i < n → p i ≡ true → q i ≡ true) → count n p ≤ count n q
+unfolding count
+count-mono zero p q h = zero-le
+count-mono (suc n) p q h =
+    omega (arith, toℕ-mono (p 0) (q 0) (h 0 (suc-le-suc zero-le)), count-mono n (λ i. p (suc i)) (λ i. q (suc i)) (λ i k. h (suc i) (suc-le-suc k)))
+
+pub count-ext : (n : ℕ) (p q : ℕ → Bool) → ((i : ℕ) → i < n → p i ≡ q i) → count n p ≡ count n q
+unfolding count
+count-ext zero p q h = refl
+count-ext (suc n) p q h =
+    ap₂ (λ (b : Bool) (c : ℕ). toℕ b + c) (h 0 (suc-le-suc zero-le)) (count-ext n (λ i. p (suc i)) (λ i. q (suc i)) (λ i k. h (suc i) (suc-le-suc k)))
+
+-- a test that passes everywhere
+pub count-all : (n : ℕ) (p : ℕ → Bool) → ((i : ℕ) → i < n → p i ≡ true) → count n p ≡ n
+unfolding count
+count-all zero p h = refl
+count-all (suc n) p h =
+    let e : toℕ (p 0) ≡ 1 = rw (h 0 (suc-le-suc zero-le)) in
+    omega (arith, e, count-all n (λ i. p (suc i)) (λ i k. h (suc i) (suc-le-suc k)))
+
+-- a test that passes nowhere
+pub count-none : (n : ℕ) (p : ℕ → Bool) → ((i : ℕ) → i < n → p i ≡ false) → count n p ≡ 0
+unfolding count
+count-none zero p h = refl
+count-none (suc n) p h =
+    let e : toℕ (p 0) ≡ 0 = rw (h 0 (suc-le-suc zero-le)) in
+    omega (arith, e, count-none n (λ i. p (suc i)) (λ i k. h (suc i) (suc-le-suc k)))
+
+-- a test passes somewhere if its count is not 0
+pub count-some : (n : ℕ) (p : ℕ → Bool) → 0 < count n p → (i : ℕ) × (i < n) × (p i ≡ true)
+unfolding count
+count-some zero p h = absurd (not-suc-le-zero h)
+count-some (suc n) p h =
+    elim (test (p 0)) [
+      | inl e ↦ (0, suc-le-suc zero-le, e)
+      | inr e ↦
+          let z : toℕ (p 0) ≡ 0 = rw e in
+          let r : (i : ℕ) × (i < n) × (p (suc i) ≡ true) = count-some n (λ i. p (suc i)) (omega (arith, z, h)) in
+          (suc (r .0), suc-le-suc (r .1), r .2)
+    ]
+
+parts-of : (a b : Bool) → toℕ a ≡ toℕ (a && b) + toℕ (a && not b)
+parts-of true true = refl
+parts-of true false = refl
+parts-of false b = refl
+
+-- those that pass one test are those that pass another test too and those that do not
+pub count-split : (n : ℕ) (p q : ℕ → Bool) → count n p ≡ count n (λ i. p i && q i) + count n (λ i. p i && not (q i))
+unfolding count
+count-split zero p q = refl
+count-split (suc n) p q = omega (arith, parts-of (p 0) (q 0), count-split n (λ i. p (suc i)) (λ i. q (suc i)))
