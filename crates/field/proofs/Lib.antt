@@ -1,2 +1,5 @@
 -- What is proved of this crate.
+pub mod Congruence
 pub mod Examples
+pub mod Inverse
+pub mod Operations
