@@ -8,7 +8,6 @@ use native.Mathlib.Omega.{arith}
 infix 50 _≈_
 infixl 55 _⊕_
 infixl 60 _⊗_
-
 -- A record, so that the two numbers can be read off it.
 pub record _≈_ (a b : ℕ) : Type 0 where
   pub same : a % 65521 ≡ b % 65521

@@ -1,5 +1,7 @@
 -- What is proved of this crate.
 pub mod Congruence
 pub mod Examples
-pub mod Inverse
+pub mod Fermat
+pub mod Fits
 pub mod Operations
+pub mod Table

@@ -1,1 +1,104 @@
-// Arithmetic modulo the prime 65521. Definitions only, so far.
+// Arithmetic modulo the prime 65521, for any words: a word above 65520 is taken modulo the prime.
+ghost use mathlib.Core.Path.{_≡_};
+ghost use Prim.Native.Nat.{_+_, _*_, _^_, _%_, _≤_, _<_};
+ghost use Rattle.field.specs.Field.{sum, difference, product, inverse as inverseOf};
+
+// The inverses of 1 to 30.
+const SMALL_INVERSES: [u16; 30] = [
+    1,
+    32761,
+    43681,
+    49141,
+    52417,
+    54601,
+    56161,
+    57331,
+    58241,
+    58969,
+    11913,
+    60061,
+    60481,
+    60841,
+    61153,
+    61426,
+    42396,
+    61881,
+    6897,
+    62245,
+    62401,
+    38717,
+    11395,
+    62791,
+    49796,
+    63001,
+    41254,
+    63181,
+    58743,
+    63337,
+];
+
+pub fn add(a: u16, b: u16) -> u16
+    ensures { λ r. ⌜ r ≡ sum a b ⌝ }
+{
+    ((a as u32 + b as u32) % 65521) as u16
+}
+
+pub fn subtract(a: u16, b: u16) -> u16
+    ensures { λ r. ⌜ r ≡ difference a b ⌝ }
+{
+    ((a as u32 + (65521 - b as u32 % 65521)) % 65521) as u16
+}
+
+pub fn multiply(a: u16, b: u16) -> u16
+    ensures { λ r. ⌜ r ≡ product a b ⌝ }
+{
+    ((a as u32 * b as u32) % 65521) as u16
+}
+
+// a to the power of the lowest binary digit of k
+fn digit_power(a: u16, k: u16) -> u16
+    ensures { λ r. ⌜ r ≡ a ^ (k % 2) ⌝ }
+{
+    if k % 2 == 1 {
+        return a;
+    }
+    1
+}
+
+// The power p − 2, by squaring.
+pub fn inverse(a: u16) -> u16
+    ensures { λ r. ⌜ r ≡ inverseOf a ⌝ }
+{
+    let mut result: u16 = 1;
+    let mut square: u16 = a;
+    let mut k: u16 = 65519;
+    let mut left: u16 = 16;
+    while 0 < left {
+        result = multiply(result, digit_power(square, k));
+        square = multiply(square, square);
+        k = k / 2;
+        left = left - 1;
+    }
+    result
+}
+
+// The inverse of k, 1 to 30, from the table.
+fn small_inverse(k: usize) -> u16
+    requires { ⌜ (1 ≤ k) × (k ≤ 30) ⌝ }
+    ensures { λ r. ⌜ r ≡ inverseOf k ⌝ }
+{
+    SMALL_INVERSES[k - 1]
+}
+
+// The inverse of a − b: from the table where a and b are at most 30 apart, and else worked out.
+pub fn inverse_of_difference(a: u16, b: u16) -> u16
+    ensures { λ r. ⌜ r ≡ inverseOf (difference a b) ⌝ }
+{
+    if b < a && a - b <= 30 {
+        return small_inverse((a - b) as usize);
+    }
+    if a < b && b - a <= 30 {
+        return subtract(0, small_inverse((b - a) as usize));
+    }
+    inverse(subtract(a, b))
+}

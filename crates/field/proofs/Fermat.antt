@@ -83,20 +83,22 @@ no-product : (a q : ℕ) → 1 < a → 256 < a → a < 65521 → a * q ≡ 65521
 no-product a zero h g l e = omega arith
 no-product a (suc zero) h g l e = omega arith
 no-product a (suc (suc i)) h g l e =
-    elim (decLe 255 i)
-    [ yes k ↦ let m : a * 257 ≤ a * suc (suc i) = mul-le-mul-left a (suc-le-suc (suc-le-suc k)) in omega arith
-    | no k ↦ no-small i (omega arith) (ap (λ (n : ℕ). n % suc (suc i)) (sym e) ∙ mul-mod-left a (suc (suc i))) ]
+    elim (decLe 255 i) [
+      | yes k ↦ let m : a * 257 ≤ a * suc (suc i) = mul-le-mul-left a (suc-le-suc (suc-le-suc k)) in omega arith
+      | no k ↦ no-small i (omega arith) (ap (λ (n : ℕ). n % suc (suc i)) (sym e) ∙ mul-mod-left a (suc (suc i)))
+    ]
 
 -- 65521 is prime: no number between 1 and it divides it
 pub is-prime : (a : ℕ) → 1 < a → a < 65521 → 65521 % a ≡ 0 → ⊥
 is-prime zero h l e = omega arith
 is-prime (suc zero) h l e = omega arith
 is-prime (suc (suc i)) h l e =
-    elim (decLe 255 i)
-    [ yes k ↦
-    no-product (suc (suc i)) (65521 / suc (suc i)) h (omega arith) l
-    (sym (add-zero (suc (suc i) * (65521 / suc (suc i)))) ∙ ap (λ (n : ℕ). suc (suc i) * (65521 / suc (suc i)) + n) (sym e) ∙ div-add-mod 65521 (suc (suc i)))
-    | no k ↦ no-small i (omega arith) e ]
+    elim (decLe 255 i) [
+      | yes k ↦
+          no-product (suc (suc i)) (65521 / suc (suc i)) h (omega arith) l
+          (sym (add-zero (suc (suc i) * (65521 / suc (suc i)))) ∙ ap (λ (n : ℕ). suc (suc i) * (65521 / suc (suc i)) + n) (sym e) ∙ div-add-mod 65521 (suc (suc i)))
+      | no k ↦ no-small i (omega arith) e
+    ]
 
 -- the power p − 1 at 1 to 255, by computing
 
@@ -126,24 +128,26 @@ quotient-pos a (suc q) r e h l = omega arith
 
 quotient-small : (a q r : ℕ) → a * q + r ≡ 65521 → 256 ≤ a → q < 256
 quotient-small a q r e h =
-    elim (decLe 256 q)
-    [ yes k ↦ let m : a * 256 ≤ a * q = mul-le-mul-left a k in omega arith
-    | no k ↦ omega arith ]
+    elim (decLe 256 q) [
+      | yes k ↦ let m : a * 256 ≤ a * q = mul-le-mul-left a k in omega arith
+      | no k ↦ omega arith
+    ]
 
 fermat-to : (f a : ℕ) → a ≤ f → 0 < a → a < 65521 → a ^ 65520 ≈ 1
 fermat-to zero a h p l = omega arith
 fermat-to (suc f) zero h p l = omega arith
 fermat-to (suc f) (suc i) h p l =
-    elim (decLe 255 i)
-    [ no k ↦ base i (omega arith)
-    | yes k ↦
-    let q : ℕ = 65521 / suc i in
-    let r : ℕ = 65521 % suc i in
-    let e : suc i * q + r ≡ 65521 = div-add-mod 65521 (suc i) in
-    let hr : r < suc i = mod-lt 65521 (suc-le-suc zero-le) in
-    let hq : q < 256 = quotient-small (suc i) q r e (suc-le-suc k) in
-    step (suc i) q r e (fermat-to f q (omega arith) (quotient-pos (suc i) q r e hr l) (omega arith))
-    (fermat-to f r (omega arith) (pos r (is-prime (suc i) (omega arith) l)) (omega arith)) ]
+    elim (decLe 255 i) [
+      | no k ↦ base i (omega arith)
+      | yes k ↦
+          let q : ℕ = 65521 / suc i in
+          let r : ℕ = 65521 % suc i in
+          let e : suc i * q + r ≡ 65521 = div-add-mod 65521 (suc i) in
+          let hr : r < suc i = mod-lt 65521 (suc-le-suc zero-le) in
+          let hq : q < 256 = quotient-small (suc i) q r e (suc-le-suc k) in
+          step (suc i) q r e (fermat-to f q (omega arith) (quotient-pos (suc i) q r e hr l) (omega arith))
+          (fermat-to f r (omega arith) (pos r (is-prime (suc i) (omega arith) l)) (omega arith))
+    ]
 
 -- Fermat: the power p − 1 of what is not 0 is 1
 pub fermat : (a : ℕ) → (a ≈ 0 → ⊥) → a ^ 65520 ≈ 1
@@ -191,11 +195,21 @@ no-zero-divisors a b e =
 -- there is only one inverse
 pub inverse-unique : (a x : ℕ) → a * x ≈ 1 → x ≈ inverse a
 inverse-unique a x e =
-    elim (same? a 0)
-    [ inl h ↦ absurd (omega (arith, same-trans (same-sym e) (same-trans (h ⊗ same-refl) (same-eq (zero-mul x)))))
-    | inr h ↦ cancel a h (same-trans e (same-sym (inverse-law a h))) ]
+    elim (same? a 0) [
+      | inl h ↦ absurd (omega (arith, same-trans (same-sym e) (same-trans (h ⊗ same-refl) (same-eq (zero-mul x)))))
+      | inr h ↦ cancel a h (same-trans e (same-sym (inverse-law a h)))
+    ]
 
 -- the inverse depends on a modulo p alone
 pub inverse-same : {a b : ℕ} → a ≈ b → inverse a ≡ inverse b
 inverse-same {a} {b} h =
     eq-same (inverse-word a) (inverse-word b) (same-trans (inverse-is a) (same-trans (power-same 65519 h) (same-sym (inverse-is b))))
+
+-- the inverse of −x
+pub inverse-minus : (x : ℕ) → (x ≈ 0 → ⊥) → 65520 * inverse x ≈ inverse (65520 * x)
+inverse-minus x h =
+    inverse-unique (65520 * x) (65520 * inverse x)
+    (same-trans (square-out x (inverse x)) (inverse-law x h))
+  where
+    square-out : (a b : ℕ) → 65520 * a * (65520 * b) ≈ a * b
+    square-out a b = mult 0 (65519 * (a * b)) (omega arith)
