@@ -1,2 +1,5 @@
 -- What is proved of this crate.
+pub mod Evaluation
 pub mod Examples
+pub mod Interpolation
+pub mod Roots
