@@ -1,5 +1,6 @@
 -- Laws of lists, tests and counts over the first n numbers.
 pub mod Bools
 pub mod Every
+pub mod InPlace
 pub mod Tabulate
 pub mod Count
