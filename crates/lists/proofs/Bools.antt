@@ -34,3 +34,7 @@ pub same-test : (a b : Bool) → (a ≡ true → b ≡ true) → (b ≡ true →
 same-test true b f g = sym (f refl)
 same-test false true f g = g refl
 same-test false false f g = refl
+
+pub and-false : (a b : Bool) → b ≡ false → a && b ≡ b
+and-false true b h = refl
+and-false false b h = sym h
