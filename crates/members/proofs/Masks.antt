@@ -4,16 +4,17 @@ use mathlib.Core.Path.{_≡_, refl, sym, ap, ap₂, _∙_, subst}
 use mathlib.Core.Logic.{_⊎_, inl, inr}
 use mathlib.Core.Bool.{Bool, true, false, _&&_, _||_, not, cond}
 use Prim.Native.Nat.{ℕ, zero, suc, _+_, _-_, _*_, _/_, _%_, _^_, _≤_, _<_, min, max, zero-le, suc-le-suc}
-use native.Mathlib.Nat.{not-suc-le-zero, le-of-suc-le-suc, mod-lt, zero-lt-suc}
+use native.Mathlib.Nat.{not-suc-le-zero, le-of-suc-le-suc, le-trans, mod-lt, zero-lt-suc}
 use native.Mathlib.Omega.{arith}
 use lib.Dec.{eqb, ltb, eqb·zero-suc, eqb·suc-zero, eqb·suc-suc}
 use borrow.Author.Tests.{ltb-true, ltb-false}
 use lib.Arith.{lt-one}
+use lib.Pow.{pow-pos}
 use lib.Bits.{bitAnd, bitOr, and-step, or-step, and-lt}
 use lib.Count.{ones, ones-step}
 use Rattle.lists.specs.Tabulate.{count}
 use Rattle.lists.proofs.Bools.{test, clash, same-test}
-use Rattle.lists.proofs.Count.{toℕ, count-le, count-mono, count-ext, count-back, count-less, count-more, count-none, count-strike}
+use Rattle.lists.proofs.Count.{toℕ, count-le, count-mono, count-ext, count-back, count-less, count-more, count-some, count-strike}
 use Rattle.members.specs.Members.{bit, has, setOf, card}
 
 -- ---- digits, lowest first
@@ -127,6 +128,14 @@ card-same n a b ha hb h l = subsets-equal n a b ha hb h (count-back n (has a) (h
 pub card-strike : (n m k : ℕ) → k < n → has m k ≡ true → card n m ≡ suc (card n (setOf n (λ i. has m i && not (eqb i k))))
 unfolding card
 card-strike n m k h y = count-strike n (has m) k h y ∙ ap suc (sym (card-setOf n (λ i. has m i && not (eqb i k))))
+
+-- a set of no members is 0, and any other has one
+pub card-none : (n m : ℕ) → m < 2 ^ n → card n m ≤ 0 → m ≡ 0
+card-none n m h l = sym (card-same n 0 m (pow-pos n) h (λ i k y. absurd (clash y (has-zero i))) (le-trans l zero-le))
+
+pub card-some : (n m : ℕ) → 0 < card n m → (i : ℕ) × (i < n) × (has m i ≡ true)
+unfolding card
+card-some n m h = count-some n (has m) h
 
 -- the places beyond the n change nothing
 pub card-more : (n k m : ℕ) → m < 2 ^ n → n ≤ k → card k m ≡ card n m
