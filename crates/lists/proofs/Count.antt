@@ -9,7 +9,7 @@ use native.Mathlib.Omega.{arith}
 use lib.Dec.{eqb, eqb·zero-suc, eqb·suc-zero, eqb·suc-suc}
 use borrow.Author.Tests.{eqb-true}
 use Rattle.lists.specs.Tabulate.{count}
-use Rattle.lists.proofs.Bools.{test, and-false}
+use Rattle.lists.proofs.Bools.{test, and-no}
 
 -- a test as a number: 1 where it passes
 abbrev pub toℕ : Bool → ℕ
@@ -135,4 +135,4 @@ count-strike n p k h y =
   where
     only : (i : ℕ) → (eqb i k ≡ true) ⊎ (eqb i k ≡ false) → p i && eqb i k ≡ eqb i k
     only i (inl e) = ap (λ (j : ℕ). p j && eqb i k) (eqb-true i k e) ∙ rw (y, e)
-    only i (inr e) = and-false (p i) (eqb i k) e
+    only i (inr e) = and-no (p i) (eqb i k) e ∙ sym e

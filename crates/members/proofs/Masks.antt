@@ -1,16 +1,16 @@
 -- Laws of sets of members as masks.
 -- Assumes nothing.
-use mathlib.Core.Path.{_≡_, refl, sym, ap, ap₂, _∙_, subst}
-use mathlib.Core.Logic.{_⊎_, inl, inr}
+use mathlib.Core.Path.{_≡_, refl, sym, ap, ap₂, _∙_}
+use mathlib.Core.Logic.{inl, inr}
 use mathlib.Core.Bool.{Bool, true, false, _&&_, _||_, not, cond}
-use Prim.Native.Nat.{ℕ, zero, suc, _+_, _-_, _*_, _/_, _%_, _^_, _≤_, _<_, min, max, zero-le, suc-le-suc}
-use native.Mathlib.Nat.{not-suc-le-zero, le-of-suc-le-suc, le-trans, mod-lt, zero-lt-suc}
+use Prim.Native.Nat.{ℕ, zero, suc, _+_, _*_, _/_, _%_, _^_, _≤_, _<_, min, max, zero-le, suc-le-suc}
+use native.Mathlib.Nat.{not-suc-le-zero, le-of-suc-le-suc, le-trans, mod-lt, div-one, zero-lt-suc}
 use native.Mathlib.Omega.{arith}
 use lib.Dec.{eqb, ltb, eqb·zero-suc, eqb·suc-zero, eqb·suc-suc}
 use borrow.Author.Tests.{ltb-true, ltb-false}
 use lib.Arith.{lt-one}
-use lib.Pow.{pow-pos}
-use lib.Bits.{bitAnd, bitOr, and-step, or-step, and-lt}
+use lib.Pow.{pow-pos, shr-shr}
+use lib.Bits.{bitAnd, bitOr, bitXor, differ, and-step, or-step, xor-step, and-lt}
 use lib.Count.{ones, ones-step}
 use Rattle.lists.specs.Tabulate.{count}
 use Rattle.lists.proofs.Bools.{test, clash, same-test}
@@ -177,6 +177,9 @@ step-half m r d h e = omega arith
 min-lt : (x y : ℕ) → x < 2 → min x y < 2
 min-lt x y h = omega arith
 
+lt-of-suc : (y : ℕ) → suc y < 2 → y < 2
+lt-of-suc y h = omega arith
+
 max-lt : (x y : ℕ) → x < 2 → y < 2 → max x y < 2
 max-lt x y h k = omega arith
 
@@ -201,6 +204,30 @@ has-or (suc i) a b =
     ap (λ (x : ℕ). has x i) (step-half (bitOr a b) (bitOr (a / 2) (b / 2)) (max (a % 2) (b % 2)) (max-lt (a % 2) (b % 2) (mod2 a) (mod2 b)) (or-step a b))
     ∙ has-or i (a / 2) (b / 2)
 
+differs : (x y : ℕ) → x < 2 → y < 2 → eqb (differ x y) 1 ≡ cond (eqb y 1) (not (eqb x 1)) (eqb x 1)
+differs zero zero h k = refl
+differs zero (suc zero) h k = refl
+differs (suc zero) zero h k = refl
+differs (suc zero) (suc zero) h k = refl
+differs (suc (suc x)) y h k = absurd (not-suc-le-zero (le-of-suc-le-suc (le-of-suc-le-suc h)))
+differs zero (suc (suc y)) h k = absurd (not-suc-le-zero (le-of-suc-le-suc (le-of-suc-le-suc k)))
+differs (suc zero) (suc (suc y)) h k = absurd (not-suc-le-zero (le-of-suc-le-suc (le-of-suc-le-suc k)))
+
+differ-lt : (x y : ℕ) → x < 2 → y < 2 → differ x y < 2
+differ-lt zero y h k = k
+differ-lt (suc x) zero h k = h
+differ-lt (suc zero) (suc y) h k = lt-of-suc y k
+differ-lt (suc (suc x)) (suc y) h k = absurd (not-suc-le-zero (le-of-suc-le-suc (le-of-suc-le-suc h)))
+
+pub has-xor : (i a b : ℕ) → has (bitXor a b) i ≡ cond (has b i) (not (has a i)) (has a i)
+unfolding has bit
+has-xor zero a b =
+    ap (λ (x : ℕ). eqb x 1) (step-low (bitXor a b) (bitXor (a / 2) (b / 2)) (differ (a % 2) (b % 2)) (differ-lt (a % 2) (b % 2) (mod2 a) (mod2 b)) (xor-step a b))
+    ∙ differs (a % 2) (b % 2) (mod2 a) (mod2 b)
+has-xor (suc i) a b =
+    ap (λ (x : ℕ). has x i) (step-half (bitXor a b) (bitXor (a / 2) (b / 2)) (differ (a % 2) (b % 2)) (differ-lt (a % 2) (b % 2) (mod2 a) (mod2 b)) (xor-step a b))
+    ∙ has-xor i (a / 2) (b / 2)
+
 -- the members that two sets have in common, counted
 pub ones-and : (n a b : ℕ) → a < 2 ^ n → b < 2 ^ n → ones (bitAnd a b) ≡ count n (λ j. has a j && has b j)
 unfolding card
@@ -217,3 +244,25 @@ has-power (suc k) zero =
 has-power (suc k) (suc i) =
     let e : 2 ^ suc k / 2 ≡ 2 ^ k = omega arith in
     ap (λ (x : ℕ). has x i) e ∙ has-power k i ∙ sym (eqb·suc-suc i k)
+
+bit-shift : (i m : ℕ) → bit i m ≡ m / 2 ^ i % 2
+unfolding bit
+bit-shift zero m = ap (λ (x : ℕ). x % 2) (sym (div-one m))
+bit-shift (suc i) m =
+    let e : 1 + i ≡ suc i = omega arith in
+    bit-shift i (m / 2) ∙ ap (λ (x : ℕ). x % 2) (shr-shr m 1 i ∙ ap (λ (k : ℕ). m / 2 ^ k) e)
+
+-- a member by the shifted mask
+pub has-shift : (i m : ℕ) → has m i ≡ eqb (m / 2 ^ i % 2) 1
+unfolding has
+has-shift i m = ap (λ (x : ℕ). eqb x 1) (bit-shift i m)
+
+-- ---- all n members
+
+all-suc : (n r : ℕ) → suc r ≡ 2 ^ n → suc (1 + 2 * r) ≡ 2 ^ suc n
+all-suc n r h = omega arith
+
+pub suc-everyone : (n : ℕ) → suc (setOf n (λ i. true)) ≡ 2 ^ n
+unfolding setOf
+suc-everyone zero = refl
+suc-everyone (suc n) = all-suc n (setOf n (λ i. true)) (suc-everyone n)
