@@ -7,7 +7,7 @@ use Prim.Native.Nat.{ℕ, zero, suc, _+_, _-_, _≤_, _<_, _^_}
 use native.Mathlib.Nat.{le-trans, le-suc, not-suc-le-zero}
 use native.Mathlib.Omega.{arith}
 use native.Mathlib.Numerals.{add-one}
-use lib.Dec.{leb, ltb}
+use lib.Dec.{leb}
 use lib.ListN.{length, getD, drop}
 use borrow.Author.Tests.{le-leb, lt-leb}
 use Rattle.lists.specs.Tabulate.{each}
@@ -49,16 +49,16 @@ module _ (t : ℕ) (rows : List ℕ) (set next i : ℕ) (few : size t ≤ 31) (b
   unfolding votes
   votes-common = common-count (size t) (getD rows i 0) set (le-trans few (le-suc 31)) below
 
-  stays-staying : (b : Bool) (r : Bool) → r ≡ has set i && ltb t (common (getD rows i 0) set) → r ≡ b → staying t rows set i ≡ b
-  stays-staying b r e v = sym (e ∙ ap (λ (x : ℕ). has set i && ltb t x) votes-common) ∙ v
+  stays-staying : (b : Bool) (r : Bool) → r ≡ has set i && leb (suc t) (common (getD rows i 0) set) → r ≡ b → staying t rows set i ≡ b
+  stays-staying b r e v = sym (e ∙ ap (λ (x : ℕ). has set i && leb (suc t) x) votes-common) ∙ v
 
-  pub round-keep : (stays : Bool) (more : ℕ) → stays ≡ has set i && ltb t (common (getD rows i 0) set) → stays ≡ true → more ≡ adding next i
+  pub round-keep : (stays : Bool) (more : ℕ) → stays ≡ has set i && leb (suc t) (common (getD rows i 0) set) → stays ≡ true → more ≡ adding next i
       → more ≡ setOf (i + 1) (staying t rows set)
   round-keep stays more e v m =
       m ∙ ap (λ (x : ℕ). adding x i) so-far
       ∙ sym (ap (λ (x : ℕ). setOf x (staying t rows set)) (add-one i) ∙ setOf-with i (staying t rows set) (le-trans within (le-trans few (le-suc 31))) (stays-staying true stays e v))
 
-  pub round-drop : (stays : Bool) → stays ≡ has set i && ltb t (common (getD rows i 0) set) → stays ≡ false → next ≡ setOf (i + 1) (staying t rows set)
+  pub round-drop : (stays : Bool) → stays ≡ has set i && leb (suc t) (common (getD rows i 0) set) → stays ≡ false → next ≡ setOf (i + 1) (staying t rows set)
   round-drop stays e v =
       so-far ∙ sym (ap (λ (x : ℕ). setOf x (staying t rows set)) (add-one i) ∙ setOf-without i (staying t rows set) (stays-staying false stays e v))
 

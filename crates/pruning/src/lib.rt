@@ -1,8 +1,8 @@
 // Vote rows to survivors. Row i is the set of those who accept member i.
 ghost use mathlib.Core.Path.{_≡_};
 ghost use mathlib.Core.Bool.{_&&_};
-ghost use Prim.Native.Nat.{_≤_, _<_, _^_};
-ghost use lib.Dec.{ltb};
+ghost use Prim.Native.Nat.{suc, _≤_, _<_, _^_};
+ghost use lib.Dec.{leb};
 ghost use lib.ListN.{length};
 ghost use Rattle.lists.specs.Tabulate.{each};
 ghost use Rattle.members.specs.Members.{size, has, isSet, common};
@@ -21,21 +21,22 @@ fn sets(n: usize, rows: &[u32]) -> bool
     ensures { λ r. ⌜ r ≡ each (isSet n) (now (rows .entry)) ⌝ }
 {
     let all = members::first(n);
-    let mut i = 0;
-    while i < rows.len() {
-        if all < rows[i] {
+    let mut k = 0;
+    while k < rows.len() {
+        if all < rows[k] {
             return false;
         }
-        i += 1;
+        k += 1;
     }
     true
 }
 
-// Member i is in the set, and more than t members of the set accept it.
+// Member i is in the set, and at least t + 1 members of the set accept it.
 fn stays(t: usize, row: u32, set: u32, i: usize) -> bool
-    ensures { λ r. ⌜ r ≡ has set i && ltb t (common row set) ⌝ }
+    requires { ⌜ t < 32 ⌝ }
+    ensures { λ r. ⌜ r ≡ has set i && leb (suc t) (common row set) ⌝ }
 {
-    members::has(set, i) && t < members::common(row, set) as usize
+    members::has(set, i) && members::common(row, set) as usize >= t + 1
 }
 
 // One round of striking: the members that stay.

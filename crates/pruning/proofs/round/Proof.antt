@@ -7,6 +7,7 @@ use native.Mathlib.Omega.{arith}
 use borrow.Author.Needs.{needs}
 use lib.ListN.{length}
 use Rattle.members.specs.Members.{setOf}
+use Rattle.members.proofs.Words.{size-of}
 use Rattle.pruning.proofs.Steps.{staying, round-keep, round-drop, round-done}
 use Rattle.pruning.proofs.round.Statement.{statement}
 use Rattle.pruning.proofs.round.Tie as tie
@@ -27,7 +28,7 @@ shared-slice-read-stays : tie.Need-shared-slice-read-stays Inv-loop μ-loop
 shared-slice-read-stays c = omega arith
 
 stays-requires : tie.Need-stays-requires Inv-loop μ-loop
-stays-requires c κs = search needs
+stays-requires c κs = omega (arith, size-of (c .before .before .before .before .args .t))
 
 with-requires : tie.Need-with-requires Inv-loop μ-loop
 with-requires c κs = search needs

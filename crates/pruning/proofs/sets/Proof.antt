@@ -11,10 +11,10 @@ use Rattle.pruning.proofs.sets.Statement.{statement}
 use Rattle.pruning.proofs.sets.Tie as tie
 
 abbrev Inv-loop : tie.InvT-loop
-Inv-loop n rows all i₀ i = (i ≤ length rows) × Tested n rows i
+Inv-loop n rows all k₀ k = (k ≤ length rows) × Tested n rows k
 
 abbrev μ-loop : tie.MeasureT-loop
-μ-loop n rows all i₀ i = length rows - i
+μ-loop n rows all k₀ k = length rows - k
 
 first-requires : tie.Need-first-requires Inv-loop μ-loop
 first-requires c κs = search needs
@@ -31,8 +31,8 @@ shared-slice-read-if1 c = omega arith
 returns : tie.Need-returns Inv-loop μ-loop
 returns c = row-beyond _ _ _ _ (c .before .before .before .before .before .before .pre) (c .before .before .before .before .first .ensures) (c .before .before .loop-test .taken) (c .before .before .before .loop .inv .1) (c .if1 .taken)
 
-add-i : tie.Need-add-i Inv-loop μ-loop
-add-i c = omega arith
+add-k : tie.Need-add-k Inv-loop μ-loop
+add-k c = omega arith
 
 loop-less : tie.Need-loop-less Inv-loop μ-loop
 loop-less c = omega arith
@@ -54,7 +54,7 @@ sets-spec =
     mul-if1
     shared-slice-read-if1
     returns
-    add-i
+    add-k
     loop-less
     loop-again
     returns-2)
