@@ -2,5 +2,6 @@
 pub mod Bools
 pub mod Every
 pub mod InPlace
+pub mod Checks
 pub mod Tabulate
 pub mod Count
