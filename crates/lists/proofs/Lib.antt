@@ -1,7 +1,7 @@
 -- Laws of lists, tests and counts over the first n numbers.
 pub mod Bools
+pub mod Checks
+pub mod Count
 pub mod Every
 pub mod InPlace
-pub mod Checks
 pub mod Tabulate
-pub mod Count
