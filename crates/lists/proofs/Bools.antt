@@ -34,3 +34,21 @@ pub same-test : (a b : Bool) → (a ≡ true → b ≡ true) → (b ≡ true →
 same-test true b f g = sym (f refl)
 same-test false true f g = g refl
 same-test false false f g = refl
+
+-- ---- two tests of which the second is known
+
+pub or-no : (a b : Bool) → b ≡ false → a || b ≡ a
+or-no true b h = refl
+or-no false b h = h
+
+pub or-yes : (a b : Bool) → b ≡ true → a || b ≡ true
+or-yes true b h = refl
+or-yes false b h = h
+
+pub and-no : (a b : Bool) → b ≡ false → a && b ≡ false
+and-no true b h = h
+and-no false b h = refl
+
+pub and-not : (a b : Bool) → b ≡ false → a && not b ≡ a
+and-not true b h = rw h
+and-not false b h = refl

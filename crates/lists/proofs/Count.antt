@@ -1,13 +1,15 @@
 -- Laws of `count`.
 -- Assumes nothing.
 use mathlib.Core.Path.{_≡_, refl, sym, ap, ap₂, _∙_, subst}
-use mathlib.Core.Logic.{inl, inr}
+use mathlib.Core.Logic.{_⊎_, inl, inr}
 use mathlib.Core.Bool.{Bool, true, false, _&&_, not, cond, false≢true}
 use Prim.Native.Nat.{ℕ, zero, suc, _+_, _≤_, _<_, zero-le, suc-le-suc}
-use native.Mathlib.Nat.{not-suc-le-zero, le-of-suc-le-suc}
+use native.Mathlib.Nat.{not-suc-le-zero, le-of-suc-le-suc, not-le-of-lt}
 use native.Mathlib.Omega.{arith}
+use lib.Dec.{eqb, eqb·zero-suc, eqb·suc-zero, eqb·suc-suc}
+use borrow.Author.Tests.{eqb-true}
 use Rattle.lists.specs.Tabulate.{count}
-use Rattle.lists.proofs.Bools.{test}
+use Rattle.lists.proofs.Bools.{test, and-no}
 
 -- a test as a number: 1 where it passes
 abbrev pub toℕ : Bool → ℕ
@@ -79,3 +81,58 @@ pub count-split : (n : ℕ) (p q : ℕ → Bool) → count n p ≡ count n (λ i
 unfolding count
 count-split zero p q = refl
 count-split (suc n) p q = omega (arith, parts-of (p 0) (q 0), count-split n (λ i. p (suc i)) (λ i. q (suc i)))
+
+-- a test that passes wherever another does, and once more, passes more often
+pub count-less : (n : ℕ) (p q : ℕ → Bool) → ((i : ℕ) → i < n → p i ≡ true → q i ≡ true)
+    → (k : ℕ) → k < n → p k ≡ false → q k ≡ true → count n p < count n q
+unfolding count
+count-less zero p q h k l np yq = absurd (not-suc-le-zero l)
+count-less (suc n) p q h zero l np yq =
+    let e : toℕ (p 0) ≡ 0 = rw np in
+    let f : toℕ (q 0) ≡ 1 = rw yq in
+    omega (arith, e, f, count-mono n (λ i. p (suc i)) (λ i. q (suc i)) (λ i m. h (suc i) (suc-le-suc m)))
+count-less (suc n) p q h (suc k) l np yq =
+    omega
+    (arith, toℕ-mono (p 0) (q 0) (h 0 (suc-le-suc zero-le)), count-less n (λ i. p (suc i)) (λ i. q (suc i)) (λ i m. h (suc i) (suc-le-suc m)) k (le-of-suc-le-suc l) np yq)
+
+-- so if it passes no more often, the other passes wherever it does
+pub count-back : (n : ℕ) (p q : ℕ → Bool) → ((i : ℕ) → i < n → p i ≡ true → q i ≡ true)
+    → count n q ≤ count n p → (i : ℕ) → i < n → q i ≡ true → p i ≡ true
+count-back n p q h le i l yq =
+    elim (test (p i)) [
+      | inl e ↦ e
+      | inr e ↦ absurd (not-le-of-lt (count-less n p q h i l e yq) le)
+    ]
+
+-- more places, none of which passes
+pub count-more : (n m : ℕ) (p : ℕ → Bool) → n ≤ m → ((i : ℕ) → n ≤ i → i < m → p i ≡ false) → count m p ≡ count n p
+unfolding count
+count-more zero m p l h = count-none m p (λ i k. h i zero-le k)
+count-more (suc n) zero p l h = absurd (not-suc-le-zero l)
+count-more (suc n) (suc m) p l h =
+    ap (λ (c : ℕ). toℕ (p 0) + c) (count-more n m (λ i. p (suc i)) (le-of-suc-le-suc l) (λ i a b. h (suc i) (suc-le-suc a) (suc-le-suc b)))
+
+-- the last place apart
+pub count-last : (n : ℕ) (p : ℕ → Bool) → count (suc n) p ≡ count n p + toℕ (p n)
+unfolding count
+count-last zero p = omega arith
+count-last (suc n) p = omega (arith, count-last n (λ i. p (suc i)))
+
+-- a test that passes at one place only
+pub count-one : (n k : ℕ) → k < n → count n (λ i. eqb i k) ≡ 1
+unfolding count
+count-one zero k h = absurd (not-suc-le-zero h)
+count-one (suc n) zero h = ap (λ (c : ℕ). 1 + c) (count-none n (λ i. eqb (suc i) 0) (λ i l. eqb·suc-zero i))
+count-one (suc n) (suc k) h =
+    ap₂ (λ (b : Bool) (c : ℕ). toℕ b + c) (eqb·zero-suc k)
+    (count-ext n (λ i. eqb (suc i) (suc k)) (λ i. eqb i k) (λ i l. eqb·suc-suc i k) ∙ count-one n k (le-of-suc-le-suc h))
+
+-- with one place that passes struck, a test passes once less
+pub count-strike : (n : ℕ) (p : ℕ → Bool) (k : ℕ) → k < n → p k ≡ true → count n p ≡ suc (count n (λ i. p i && not (eqb i k)))
+count-strike n p k h y =
+    let e : count n (λ i. p i && eqb i k) ≡ 1 = count-ext n (λ i. p i && eqb i k) (λ i. eqb i k) (λ i l. only i (test (eqb i k))) ∙ count-one n k h in
+    omega (arith, e, count-split n p (λ i. eqb i k))
+  where
+    only : (i : ℕ) → (eqb i k ≡ true) ⊎ (eqb i k ≡ false) → p i && eqb i k ≡ eqb i k
+    only i (inl e) = ap (λ (j : ℕ). p j && eqb i k) (eqb-true i k e) ∙ rw (y, e)
+    only i (inr e) = and-no (p i) (eqb i k) e ∙ sym e

@@ -1,10 +1,10 @@
 -- Corners of sets of members. Proved in proofs/Examples.antt.
-use Prim.Native.Nat.{_-_, _^_}
+use Prim.Native.Nat.{_+_, _-_, _^_}
 use mathlib.Core.Path.{_≡_}
 use mathlib.Core.Bool.{true, false}
 use mathlib.Core.List.{[], _∷_}
 use lib.Dec.{eqb, ltb}
-use Rattle.members.specs.Members.{size, ownPoints, has, setOf, isSet, card, membersOf}
+use Rattle.members.specs.Members.{size, ownPoints, has, setOf, isSet, card, membersOf, adding, striking, firstOf, common}
 
 pub record Examples : Type 0 where
   -- document 01's member 1 has the value 1, member 2 the value 2, member 3 the value 4
@@ -21,3 +21,16 @@ pub record Examples : Type 0 where
   pub beyond-is-not : isSet 31 (2 ^ 31) ≡ false
   pub largest-station : size 15 ≡ 31
   pub points-of-5 : ownPoints 2 ≡ 1 ∷ 2 ∷ 3 ∷ 4 ∷ 5 ∷ []
+  -- a mask holds the members 0 to 31
+  pub add-second : adding 5 1 ≡ 7
+  pub add-again : adding 5 2 ≡ 5
+  pub add-last : adding 5 31 ≡ 2 ^ 31 + 5
+  pub add-beyond : adding 5 32 ≡ 5
+  pub strike-second : striking 7 1 ≡ 5
+  pub strike-absent : striking 5 1 ≡ 5
+  pub strike-beyond : striking 5 32 ≡ 5
+  pub first-3 : firstOf 3 ≡ 7
+  pub first-0 : firstOf 0 ≡ 0
+  pub first-33 : firstOf 33 ≡ 2 ^ 32 - 1
+  pub common-two : common 7 13 ≡ 2
+  pub common-last : common (2 ^ 31) (2 ^ 32 - 1) ≡ 1

@@ -1,0 +1,134 @@
+-- Laws of the operations on masks of 32 bits.
+-- Assumes nothing.
+use mathlib.Core.Path.{_≡_, refl, sym, ap, _∙_, subst}
+use mathlib.Core.Logic.{_⊎_, inl, inr}
+use mathlib.Core.Bool.{Bool, true, false, _&&_, _||_, not, cond, true≢false, false≢true}
+use Prim.Native.Nat.{ℕ, suc, _/_, _^_, _≤_, _<_}
+use native.Mathlib.Nat.{le-refl, le-trans, le-suc, le-of-eq, le-of-suc-le-suc, eq-or-lt-of-le, lt-of-lt-of-le, lt-irrefl}
+use lib.Dec.{eqb, ltb, leb, leb·suc-suc}
+use lib.Bits.{bitAnd, bitOr, bitXor, and-mask, or-lt, xor-lt}
+use lib.Count.{ones}
+use lib.Pow.{pow-mono, pow-lt}
+use borrow.Author.Tests.{eqb-true, eqb-false, ne-eqb, lt-ltb, ltb-true, ltb-false}
+use Rattle.lists.specs.Tabulate.{count}
+use Rattle.lists.proofs.Bools.{test, or-no, or-yes, and-no, and-not}
+use Rattle.lists.proofs.Count.{count-more}
+use Rattle.members.specs.Members.{has, setOf, isSet, adding, striking, firstOf, common}
+use Rattle.members.proofs.Masks.{has-setOf, setOf-lt, setOf-has, setOf-ext, same-members, has-above, has-or, has-xor, has-power, has-shift, ones-and, suc-everyone}
+
+-- ---- what the code computes
+
+-- bit i of the shifted mask
+pub shift-has : (m i : ℕ) → eqb (bitAnd (m / 2 ^ i) 1) 1 ≡ has m i
+shift-has m i = ap (λ (x : ℕ). eqb x 1) (and-mask (m / 2 ^ i) 1) ∙ sym (has-shift i m)
+
+pub adding-or : (m i : ℕ) → m < 2 ^ 32 → i < 32 → bitOr m (2 ^ i) ≡ adding m i
+unfolding adding
+adding-or m i h k =
+    same-members 32 (bitOr m (2 ^ i)) (setOf 32 (λ j. has m j || eqb j i)) (or-lt 32 m (2 ^ i) h (pow-lt k)) (setOf-lt 32 (λ j. has m j || eqb j i))
+    (λ j l. has-or j m (2 ^ i) ∙ ap (λ (b : Bool). has m j || b) (has-power i j) ∙ sym (has-setOf 32 (λ x. has m x || eqb x i) j l))
+
+apart : (i j : ℕ) → j < 32 → 32 ≤ i → eqb j i ≡ false
+apart i j l k = ne-eqb j i (λ e. lt-irrefl j (lt-of-lt-of-le l (subst (λ (x : ℕ). 32 ≤ x) (sym e) k)))
+
+pub adding-beyond : (m i : ℕ) → m < 2 ^ 32 → 32 ≤ i → m ≡ adding m i
+unfolding adding
+adding-beyond m i h k =
+    sym (setOf-ext 32 (λ j. has m j || eqb j i) (has m) (λ j l. or-no (has m j) (eqb j i) (apart i j l k)) ∙ setOf-has 32 m h)
+
+flip : (a b c : Bool) → (c ≡ true → a ≡ true) → b ≡ c → cond b (not a) a ≡ a && not c
+flip true true true h e = refl
+flip true false false h e = refl
+flip true true false h e = absurd (true≢false e)
+flip true false true h e = absurd (false≢true e)
+flip false b true h e = absurd (false≢true (h refl))
+flip false true false h e = absurd (true≢false e)
+flip false false false h e = refl
+
+pub striking-xor : (m i : ℕ) → m < 2 ^ 32 → i < 32 → has m i ≡ true → bitXor m (2 ^ i) ≡ striking m i
+unfolding striking
+striking-xor m i h k y =
+    same-members 32 (bitXor m (2 ^ i)) (setOf 32 (λ j. has m j && not (eqb j i))) (xor-lt 32 m (2 ^ i) h (pow-lt k)) (setOf-lt 32 (λ j. has m j && not (eqb j i)))
+    (λ j l. has-xor j m (2 ^ i) ∙ flip (has m j) (has (2 ^ i) j) (eqb j i) (λ e. ap (has m) (eqb-true j i e) ∙ y) (has-power i j)
+    ∙ sym (has-setOf 32 (λ x. has m x && not (eqb x i)) j l))
+
+absent : (m i j : ℕ) → has m i ≡ false → has m j && not (eqb j i) ≡ has m j
+absent m i j n =
+    elim (test (eqb j i)) [
+      | inl e ↦ let z : has m j ≡ false = ap (has m) (eqb-true j i e) ∙ n in rw z
+      | inr e ↦ and-not (has m j) (eqb j i) e
+    ]
+
+pub striking-absent : (m i : ℕ) → m < 2 ^ 32 → has m i ≡ false → m ≡ striking m i
+unfolding striking
+striking-absent m i h n =
+    sym (setOf-ext 32 (λ j. has m j && not (eqb j i)) (has m) (λ j l. absent m i j n) ∙ setOf-has 32 m h)
+
+pub common-ones : (a b : ℕ) → a < 2 ^ 32 → b < 2 ^ 32 → ones (bitAnd a b) ≡ common a b
+unfolding common
+common-ones a b ha hb = ones-and 32 a b ha hb
+
+-- ---- the same operations on n members, n at most 32
+
+-- the first n members are all of n
+pub firstOf-all : (n : ℕ) → n ≤ 32 → firstOf n ≡ setOf n (λ i. true)
+unfolding firstOf
+firstOf-all n l =
+    same-members 32 (setOf 32 (λ i. ltb i n)) (setOf n (λ i. true)) (setOf-lt 32 (λ i. ltb i n)) (lt-of-lt-of-le (setOf-lt n (λ i. true)) (pow-mono l))
+    (λ i k. has-setOf 32 (λ j. ltb j n) i k ∙ sides i (test (ltb i n)))
+  where
+    sides : (i : ℕ) → (ltb i n ≡ true) ⊎ (ltb i n ≡ false) → ltb i n ≡ has (setOf n (λ j. true)) i
+    sides i (inl y) = y ∙ sym (has-setOf n (λ j. true) i (ltb-true i n y))
+    sides i (inr y) = y ∙ sym (has-above n (setOf n (λ j. true)) i (setOf-lt n (λ j. true)) (ltb-false i n y))
+
+pub firstOf-power : (n : ℕ) → n ≤ 32 → suc (firstOf n) ≡ 2 ^ n
+firstOf-power n l = ap suc (firstOf-all n l) ∙ suc-everyone n
+
+pub firstOf-beyond : (n : ℕ) → 32 ≤ n → suc (firstOf n) ≡ 2 ^ 32
+unfolding firstOf
+firstOf-beyond n l =
+    ap suc (setOf-ext 32 (λ i. ltb i n) (λ i. true) (λ i k. lt-ltb i n (lt-of-lt-of-le k l))) ∙ suc-everyone 32
+
+-- a mask has no bit beyond the n members if it is at most all of them
+pub firstOf-isSet : (n m : ℕ) → n ≤ 32 → leb m (firstOf n) ≡ isSet n m
+firstOf-isSet n m l = sym (leb·suc-suc m (firstOf n)) ∙ ap (leb (suc m)) (firstOf-power n l)
+
+past : {n : ℕ} (i : ℕ) → eqb i n ≡ false → n ≤ i → n < i
+past {n} i e l =
+    elim (eq-or-lt-of-le l) [
+      | inl s ↦ absurd (eqb-false i n e (sym s))
+      | inr k ↦ k
+    ]
+
+-- a set of the first of n members, with the next one
+pub setOf-with : (n : ℕ) (p : ℕ → Bool) → n < 32 → p n ≡ true → setOf (suc n) p ≡ adding (setOf n p) n
+unfolding adding
+setOf-with n p l y =
+    same-members 32 (setOf (suc n) p) (setOf 32 (λ j. has (setOf n p) j || eqb j n)) (lt-of-lt-of-le (setOf-lt (suc n) p) (pow-mono l))
+    (setOf-lt 32 (λ j. has (setOf n p) j || eqb j n))
+    (λ i k. sides i (test (eqb i n)) (test (ltb i n)) ∙ sym (has-setOf 32 (λ j. has (setOf n p) j || eqb j n) i k))
+  where
+    sides : (i : ℕ) → (eqb i n ≡ true) ⊎ (eqb i n ≡ false) → (ltb i n ≡ true) ⊎ (ltb i n ≡ false) → has (setOf (suc n) p) i ≡ has (setOf n p) i || eqb i n
+    sides i (inl e) c =
+        ap (has (setOf (suc n) p)) (eqb-true i n e) ∙ has-setOf (suc n) p n (le-refl (suc n)) ∙ y ∙ sym (or-yes (has (setOf n p) i) (eqb i n) e)
+    sides i (inr e) (inl b) =
+        has-setOf (suc n) p i (le-trans (ltb-true i n b) (le-suc n)) ∙ sym (has-setOf n p i (ltb-true i n b)) ∙ sym (or-no (has (setOf n p) i) (eqb i n) e)
+    sides i (inr e) (inr b) =
+        has-above (suc n) (setOf (suc n) p) i (setOf-lt (suc n) p) (past i e (ltb-false i n b))
+        ∙ sym (has-above n (setOf n p) i (setOf-lt n p) (ltb-false i n b)) ∙ sym (or-no (has (setOf n p) i) (eqb i n) e)
+
+-- or without it
+pub setOf-without : (n : ℕ) (p : ℕ → Bool) → p n ≡ false → setOf (suc n) p ≡ setOf n p
+setOf-without n p y =
+    same-members (suc n) (setOf (suc n) p) (setOf n p) (setOf-lt (suc n) p) (lt-of-lt-of-le (setOf-lt n p) (pow-mono (le-suc n)))
+    (λ i k. has-setOf (suc n) p i k ∙ sides i (eq-or-lt-of-le (le-of-suc-le-suc k)))
+  where
+    sides : (i : ℕ) → (i ≡ n) ⊎ (i < n) → p i ≡ has (setOf n p) i
+    sides i (inl e) = ap p e ∙ y ∙ sym (has-above n (setOf n p) i (setOf-lt n p) (le-of-eq (sym e)))
+    sides i (inr l) = sym (has-setOf n p i l)
+
+-- the members that a set of n members has in common with a mask
+pub common-count : (n a b : ℕ) → n ≤ 32 → b < 2 ^ n → common a b ≡ count n (λ j. has a j && has b j)
+unfolding common
+common-count n a b l h =
+    count-more n 32 (λ j. has a j && has b j) l (λ i k m. and-no (has a i) (has b i) (has-above n b i h k))

@@ -1,0 +1,11 @@
+-- `members::card` meets its contract.
+-- Assumes nothing.
+use Rattle.members.proofs.Masks.{ones-card}
+use Rattle.members.proofs.card.Statement.{statement}
+use Rattle.members.proofs.card.Tie as tie
+
+returns : tie.Need-returns
+returns c = ones-card 32 (c .args .set) (c .fits .set .fits)
+
+pub card-spec : {M : Type 1} → statement M
+card-spec = tie.close (tie.spec returns)
