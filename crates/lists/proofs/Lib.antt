@@ -3,3 +3,5 @@ pub mod Bools
 pub mod Every
 pub mod Tabulate
 pub mod Count
+pub mod Choose
+pub mod Common
