@@ -5,3 +5,5 @@ pub mod Count
 pub mod Every
 pub mod InPlace
 pub mod Tabulate
+pub mod Choose
+pub mod Common

@@ -2,3 +2,4 @@
 pub mod Examples
 pub mod Masks
 pub mod Words
+pub mod Listed

@@ -1,0 +1,29 @@
+-- The points of some of the members: distinct, where all points are.
+-- Assumes nothing.
+use mathlib.Core.Path.{_≡_, sym, ap, _∙_, subst}
+use mathlib.Core.List.{List, map, Sublistᴰ, Sublistᴰ·slnil, Sublistᴰ·cons, Sublistᴰ·cons-cons}
+use Prim.Native.Nat.{ℕ}
+use lib.ListN.{length, getD}
+use Rattle.lists.specs.Tabulate.{tab}
+use Rattle.lists.proofs.Every.{Every}
+use Rattle.lists.proofs.Tabulate.{map-tab, tab-getD}
+use Rattle.lists.proofs.Choose.{every-sub, sub-map}
+use Rattle.field.proofs.Congruence.{_≈_}
+use Rattle.polynomial.proofs.Roots.{Distinct, distinct-more}
+
+-- the points of the members ms
+abbrev pub pointsOf : List ℕ → List ℕ → List ℕ
+pointsOf xs ms = map (λ i. getD xs i 0) ms
+
+pub distinct-sub : {l m : List ℕ} → Sublistᴰ l m → Distinct m → Distinct l
+distinct-sub Sublistᴰ·slnil d = d
+distinct-sub (Sublistᴰ·cons s) (distinct-more n d) = distinct-sub s d
+distinct-sub (Sublistᴰ·cons-cons {l₁ = l} e s) (distinct-more n d) =
+    distinct-more (subst (λ (x : ℕ). Every (λ a. a ≈ x → ⊥) l) (sym e) (every-sub s n)) (distinct-sub s d)
+
+pub all-points : (xs : List ℕ) (n : ℕ) → length xs ≡ n → pointsOf xs (tab n (λ i. i)) ≡ xs
+all-points xs n e = map-tab (λ i. getD xs i 0) n (λ i. i) ∙ ap (λ (m : ℕ). tab m (λ i. getD xs i 0)) (sym e) ∙ tab-getD xs 0
+
+pub distinct-points : (xs : List ℕ) (n : ℕ) {ms : List ℕ} → length xs ≡ n → Distinct xs → Sublistᴰ ms (tab n (λ i. i)) → Distinct (pointsOf xs ms)
+distinct-points xs n {ms} e d s =
+    distinct-sub (sub-map (λ i. getD xs i 0) s) (subst Distinct (sym (all-points xs n e)) d)
