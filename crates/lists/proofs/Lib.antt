@@ -1,9 +1,9 @@
 -- Laws of lists, tests and counts over the first n numbers.
 pub mod Bools
 pub mod Checks
+pub mod Choose
+pub mod Common
 pub mod Count
 pub mod Every
 pub mod InPlace
 pub mod Tabulate
-pub mod Choose
-pub mod Common
