@@ -3,4 +3,6 @@ pub mod Bools
 pub mod Every
 pub mod InPlace
 pub mod Tabulate
+pub mod Blocks
+pub mod Checks
 pub mod Count
