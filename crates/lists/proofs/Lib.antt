@@ -1,4 +1,5 @@
 -- Laws of lists, tests and counts over the first n numbers.
+pub mod Blocks
 pub mod Bools
 pub mod Checks
 pub mod Choose
