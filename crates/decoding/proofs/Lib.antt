@@ -1,5 +1,6 @@
 -- What is proved of this crate.
 pub mod Examples
+pub mod Own
 pub mod Points
 pub mod Search
 pub mod Unique

@@ -1,2 +1,4 @@
 -- What is proved of this crate.
 pub mod Examples
+pub mod Meaning
+pub mod Opening
