@@ -1,2 +1,4 @@
 -- What is proved of the definitions.
+pub mod Demand3
 pub mod Examples
+pub mod Honest
