@@ -34,7 +34,7 @@ use Rattle.claims.specs.Demands.{Dealing, HandedIn, AsDealt, altered, So
 use Rattle.claims.proofs.Honest.{survives, many-survive, some-survive}
 
 -- the dealt polynomials have the secret at 0
-dealt-zero : (t : ℕ) (secret random : List ℕ) → Every (λ a. a < prime) secret → atZero (length secret) (polynomial t secret random) ≡ secret
+pub dealt-zero : (t : ℕ) (secret random : List ℕ) → Every (λ a. a < prime) secret → atZero (length secret) (polynomial t secret random) ≡ secret
 unfolding atZero
 dealt-zero t secret random field =
     tab-ext (length secret) (λ k. value (polynomial t secret random k) 0) (λ k. getD secret k 0)
@@ -42,12 +42,12 @@ dealt-zero t secret random field =
     ∙ tab-getD secret 0
 
 -- member i has its dealt share words
-abbrev kept : ℕ → ℕ → List ℕ → List ℕ → ℕ → Bool
+abbrev pub kept : ℕ → ℕ → List ℕ → List ℕ → ℕ → Bool
 kept t d dealt words i = all d (λ k. eqb (word t d words i k) (word t d dealt i k))
 
 module _ (xs : List ℕ) (t : ℕ) (secret random words : List ℕ) (set : ℕ) where
   -- a member with its dealt share words agrees with the dealt polynomials
-  kept-agrees : (i : ℕ) → i < size t → has set i && kept t (length secret) (dealtShares xs t secret random) words i ≡ true
+  pub kept-agrees : (i : ℕ) → i < size t → has set i && kept t (length secret) (dealtShares xs t secret random) words i ≡ true
       → agrees xs (length secret) (word t (length secret) words) set (polynomial t secret random) i ≡ true
   kept-agrees i h e =
       let d : ℕ = length secret in

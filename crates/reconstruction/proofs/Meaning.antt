@@ -4,19 +4,20 @@ use mathlib.Core.Path.{_≡_, refl, sym, ap, _∙_}
 use mathlib.Core.Bool.{Bool, true, false, _&&_}
 use mathlib.Core.List.{List}
 use Prim.Native.Nat.{ℕ, _<_}
+use native.Mathlib.Omega.{arith}
 use lib.Dec.{eqb, ltb}
 use lib.ListN.{getD}
 use borrow.Author.Tests.{lt-ltb, ltb-true, eq-eqb, eqb-true}
 use Rattle.lists.specs.Tabulate.{all, count}
 use Rattle.lists.proofs.Bools.{and-intro, and-left, and-right}
 use Rattle.lists.proofs.Tabulate.{getD-tab, all-intro, all-elim}
-use Rattle.lists.proofs.Count.{count-ext}
+use Rattle.lists.proofs.Count.{count-ext, count-some}
 use Rattle.field.specs.Field.{prime, isFieldWord}
 use Rattle.mac.specs.Tag.{tag}
 use Rattle.members.specs.Members.{size, has, setOf}
 use Rattle.members.proofs.Masks.{has-setOf}
 use Rattle.shares.specs.Layout.{width, word, shareWords, tagWord, keyα, keyβ}
-use Rattle.pruning.specs.Pruning.{votes}
+use Rattle.pruning.specs.Pruning.{Closed, votes}
 use Rattle.reconstruction.specs.Votes.{usable, accepts, voteRows}
 
 -- every word of member i's share is a field word
@@ -74,3 +75,12 @@ module _ (t d able : ℕ) (words : List ℕ) where
     votes-are set =
         count-ext (size t) (λ j. has (getD (voteRows t d able words) i 0) j && has set j) (λ j. accepts t d able words j i && has set j)
         (λ j l. ap (λ (b : Bool). b && has set j) (has-row j l))
+
+-- every survivor is usable
+pub survivor-usable : (t d able : ℕ) (words : List ℕ) (set : ℕ) → Closed t (voteRows t d able words) set → (i : ℕ) → i < size t → has set i ≡ true → has able i ≡ true
+survivor-usable t d able words set closed i h e =
+    let r : (j : ℕ) × (j < size t) × (accepts t d able words j i && has set j ≡ true) =
+    count-some (size t) (λ j. accepts t d able words j i && has set j) (omega (arith, closed .accepted i h e, votes-are t d able words i h set)) in
+    let j : ℕ = r .0 in
+    and-left (has able i) (has able j)
+    (accepts-usable t d able words j i (and-left (accepts t d able words j i) (has set j) (r .2)))

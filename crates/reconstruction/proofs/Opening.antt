@@ -5,11 +5,13 @@ use mathlib.Core.Logic.{_⊎_, inl, inr}
 use mathlib.Core.Bool.{Bool, true, false}
 use mathlib.Core.Option.{Option, none, some}
 use mathlib.Core.List.{List}
-use Prim.Native.Nat.{ℕ, _*_, _^_, _≤_, _<_}
+use Prim.Native.Nat.{ℕ, suc, _*_, _^_, _≤_, _<_}
 use native.Mathlib.Omega.{arith}
-use lib.Dec.{eqb}
+use native.Mathlib.Nat.{le-refl}
+use lib.Dec.{leb, eqb}
 use lib.ListN.{length}
-use borrow.Author.Tests.{le-leb, lt-ltb, eq-eqb, ne-eqb}
+use borrow.Author.Tests.{le-leb, leb-true, lt-ltb, eq-eqb, ne-eqb}
+use Rattle.lists.proofs.Bools.{test, and-left}
 use Rattle.lists.proofs.Tabulate.{tab-ext}
 use Rattle.polynomial.specs.Polynomial.{value}
 use Rattle.polynomial.proofs.Roots.{Distinct}
@@ -85,3 +87,12 @@ pub reconstruct-finishes : (t d present quorum : ℕ) (words : List ℕ) → isT
 unfolding reconstruct
 reconstruct-finishes t d present quorum words ht hd hw hp hq =
     rw (ht, hd, eq-eqb (length words) (size t * width t d) hw, lt-ltb present (2 ^ size t) hp, hq)
+
+-- a quorum asks for at least t + 1
+pub required-least : (t quorum : ℕ) → isQuorum t quorum ≡ true → suc t ≤ required t quorum
+unfolding isQuorum required
+required-least t quorum h =
+    elim (test (eqb quorum 0)) [
+      | inl e ↦ rw e (le-refl (suc t))
+      | inr e ↦ rw e (leb-true (suc t) quorum (and-left (leb (suc t) quorum) (leb quorum (size t)) (rw e at h)))
+    ]
