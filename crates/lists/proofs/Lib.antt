@@ -6,5 +6,6 @@ pub mod Choose
 pub mod Common
 pub mod Count
 pub mod Every
+pub mod Fill
 pub mod InPlace
 pub mod Tabulate

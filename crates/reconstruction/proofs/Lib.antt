@@ -2,3 +2,5 @@
 pub mod Examples
 pub mod Meaning
 pub mod Opening
+pub mod Places
+pub mod Voting

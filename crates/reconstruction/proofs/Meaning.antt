@@ -18,7 +18,7 @@ use Rattle.members.specs.Members.{size, has, setOf}
 use Rattle.members.proofs.Masks.{has-setOf}
 use Rattle.shares.specs.Layout.{width, word, shareWords, tagWord, keyα, keyβ}
 use Rattle.pruning.specs.Pruning.{Closed, votes}
-use Rattle.reconstruction.specs.Votes.{usable, accepts, voteRows}
+use Rattle.reconstruction.specs.Votes.{usable, tagHolds, accepts, voteRows}
 
 -- every word of member i's share is a field word
 abbrev fieldShare : ℕ → ℕ → List ℕ → ℕ → Bool
@@ -48,18 +48,18 @@ rightTag t d words i j = tag (keyα t d words j i) (keyβ t d words j i) (shareW
 module _ (t d able : ℕ) (words : List ℕ) where
   module _ (j i : ℕ) where
     pub accepts-intro : has able i ≡ true → has able j ≡ true → tagWord t d words i j ≡ rightTag t d words i j → accepts t d able words j i ≡ true
-    unfolding accepts
+    unfolding accepts tagHolds
     accepts-intro p q e = and-intro (and-intro p q) (eq-eqb (tagWord t d words i j) (rightTag t d words i j) e)
 
     pub accepts-tag : accepts t d able words j i ≡ true → tagWord t d words i j ≡ rightTag t d words i j
-    unfolding accepts
+    unfolding accepts tagHolds
     accepts-tag a =
         eqb-true (tagWord t d words i j) (rightTag t d words i j)
         (and-right (has able i && has able j) (eqb (tagWord t d words i j) (rightTag t d words i j)) a)
 
     pub accepts-usable : accepts t d able words j i ≡ true → has able i && has able j ≡ true
     unfolding accepts
-    accepts-usable a = and-left (has able i && has able j) (eqb (tagWord t d words i j) (rightTag t d words i j)) a
+    accepts-usable a = and-left (has able i && has able j) (tagHolds t d words i j) a
 
   module _ (i : ℕ) (h : i < size t) where
     -- row i is the set of those who accept i
