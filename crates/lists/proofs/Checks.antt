@@ -3,21 +3,13 @@
 use mathlib.Core.Path.{_≡_}
 use mathlib.Core.Logic.{inl, inr}
 use mathlib.Core.Bool.{true, false}
-use mathlib.Core.List.{List, [], _∷_}
+use mathlib.Core.List.{List, _∷_}
 use Prim.Native.Nat.{ℕ}
 use Rattle.lists.specs.Checks.{Check, checked}
 use Rattle.lists.proofs.Bools.{test}
 
 module _ {A : Type 0} (refuse : ℕ → A) (c : Check) (cs : List Check) (answer : A) where
-  -- a check that passes leaves the rest
-  pub passed : c .passes ≡ true → checked refuse (c ∷ cs) answer ≡ checked refuse cs answer
-  passed h = rw h
-
-  -- a check that fails refuses
-  pub failed : c .passes ≡ false → checked refuse (c ∷ cs) answer ≡ refuse (c .number)
-  failed h = rw h
-
-  -- an answer with a number that the check's refusal does not have has passed it
+  -- an answer with the number 0 has passed a check whose refusal has another number
   pub pass-of : (number : A → ℕ) → (number (refuse (c .number)) ≡ 0 → ⊥) → number (checked refuse (c ∷ cs) answer) ≡ 0
       → (c .passes ≡ true) × (number (checked refuse cs answer) ≡ 0)
   pass-of number other h =

@@ -5,4 +5,5 @@ pub mod InPlace
 pub mod Tabulate
 pub mod Blocks
 pub mod Checks
+pub mod Stores
 pub mod Count
