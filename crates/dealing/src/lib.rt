@@ -1,13 +1,14 @@
 // Dealing: secret and random words to the members' shares.
 ghost use mathlib.Core.Path.{_≡_};
 ghost use Prim.Native.Nat.{_+_, _*_, _≤_, _<_};
+ghost use mathlib.Core.List.{_∷_};
 ghost use lib.ListN.{length, take, drop};
 ghost use lib.Seq.{sets};
 ghost use Rattle.polynomial.specs.Polynomial.{value};
 ghost use Rattle.mac.specs.Tag.{tag};
 ghost use Rattle.members.specs.Members.{size, ownPoints};
 ghost use Rattle.shares.specs.Layout.{width};
-ghost use Rattle.dealing.specs.Dealing.{randomLength, polynomial, dealtα, dealtβ, dealtShare, dealtShares, deal as dealOf};
+ghost use Rattle.dealing.specs.Dealing.{randomLength, dealtα, dealtβ, dealtShare, dealtShares, deal as dealOf};
 ghost use Rattle.dealing.specs.Steps.{wordsAt, tagsOf, keysOf};
 ghost use Rattle.dealing.specs.Answer.{answerOf};
 
@@ -17,25 +18,24 @@ pub enum Outcome {
     Refused(u16),
 }
 
-// Polynomial k at x.
-fn value_at(t: usize, secret: &[u16], random: &[u16], k: usize, x: u16) -> u16
-    requires { ⌜ (k < length (now secret)) × (t * k + t ≤ length (now random)) ⌝ }
-    ensures { λ r. ⌜ r ≡ value (polynomial t (now (secret .entry)) (now (random .entry)) k) x ⌝ }
+// The polynomial with this constant coefficient and the others, at x.
+fn value_at(constant: u16, others: &[u16], x: u16) -> u16
+    ensures { λ r. ⌜ r ≡ value (constant ∷ now (others .entry)) x ⌝ }
 {
-    let from = t * k;
-    let to = from + t;
-    let rest = polynomial::evaluate(&random[from..to], x);
-    field::add_product(secret[k], x, rest)
+    field::add_product(constant, x, polynomial::evaluate(others, x))
 }
 
-// The share words for the point x, from place at on.
+// The share words for the point x, from place at on. Word k's coefficients are the k-th t random words.
 fn fill_words(t: usize, secret: &[u16], random: &[u16], x: u16, shares: &mut [u16], at: usize)
     requires { ⌜ (length (now random) ≡ randomLength t (length (now secret))) × (at + length (now secret) ≤ length (now shares)) ⌝ }
     ensures { λ r. ⌜ now (shares .exit) ≡ sets (now (shares .entry)) at (wordsAt t (now (secret .entry)) (now (random .entry)) x) ⌝ }
 {
+    let mut from = 0;
     let mut k = 0;
     while k < secret.len() {
-        shares[at + k] = value_at(t, secret, random, k, x);
+        let to = from + t;
+        shares[at + k] = value_at(secret[k], &random[from..to], x);
+        from = to;
         k = k + 1;
     }
 }

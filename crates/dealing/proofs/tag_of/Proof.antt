@@ -3,6 +3,7 @@
 use mathlib.Core.Path.{_≡_, ap₂, _∙_}
 use mathlib.Core.List.{List}
 use Prim.Native.Nat.{ℕ, _+_, _-_, _*_}
+use borrow.Author.Needs.{needs}
 use native.Mathlib.Omega.{arith}
 use lib.ListN.{getD, take, drop}
 use Rattle.mac.specs.Tag.{tag}
@@ -23,7 +24,7 @@ under t d i j random shares at place r ep er =
     ∙ ap₂ (λ (p n : ℕ). tag (getD random p 0) (getD random (p + 1) 0) (take n (drop at shares))) ep n
 
 key-place-requires : tie.Need-key-place-requires
-key-place-requires c κs = (c .before .before .pre .0, c .before .before .pre .1, c .before .before .pre .3, c .before .before .pre .2)
+key-place-requires c κs = search needs
 
 add-end : tie.Need-add-end
 add-end c = omega arith
