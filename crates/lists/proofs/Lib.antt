@@ -8,4 +8,5 @@ pub mod Count
 pub mod Every
 pub mod Fill
 pub mod InPlace
+pub mod Stores
 pub mod Tabulate
