@@ -2,11 +2,7 @@
 -- Assumes nothing.
 use mathlib.Core.Path.{_≡_, ap}
 use mathlib.Core.Logic.{inl, inr}
-<<<<<<< HEAD
 use mathlib.Core.Bool.{Bool, true, false}
-=======
-use mathlib.Core.Bool.{true, false}
->>>>>>> 869d378acbe1c74976cd5aea2ef02acd2000c2d4
 use mathlib.Core.List.{List, _∷_}
 use Prim.Native.Nat.{ℕ}
 use Rattle.lists.specs.Checks.{Check, _unless_, checked}
@@ -22,11 +18,7 @@ module _ {A : Type 0} (refuse : ℕ → A) (number : ℕ) (passes : Bool) (later
   check-passes e = ap (λ (b : Bool). checked refuse (number unless b ∷ later) answer) e
 
 module _ {A : Type 0} (refuse : ℕ → A) (c : Check) (cs : List Check) (answer : A) where
-<<<<<<< HEAD
-  -- an answer with a number that the check's refusal does not have has passed it
-=======
   -- an answer with the number 0 has passed a check whose refusal has another number
->>>>>>> 869d378acbe1c74976cd5aea2ef02acd2000c2d4
   pub pass-of : (number : A → ℕ) → (number (refuse (c .number)) ≡ 0 → ⊥) → number (checked refuse (c ∷ cs) answer) ≡ 0
       → (c .passes ≡ true) × (number (checked refuse cs answer) ≡ 0)
   pass-of number other h =
