@@ -2,3 +2,4 @@
 pub mod Bools
 pub mod Tabulate
 pub mod Count
+pub mod Blocks
