@@ -1,3 +1,5 @@
 -- What is proved of this crate.
 pub mod Examples
 pub mod Lines
+pub mod Masks
+pub mod Placing
