@@ -1,5 +1,7 @@
 -- What is proved of this crate.
+pub mod Bytes
 pub mod Examples
 pub mod Lines
 pub mod Masks
+pub mod Numerals
 pub mod Placing

@@ -49,6 +49,10 @@ parts-next sep (b ∷ bs) ys h =
     let e : eqb b sep ≡ false = not-true (eqb b sep) (and-left (not (eqb b sep)) (free sep bs) h) in
     rw (e, parts-next sep bs ys (and-right (not (eqb b sep)) (free sep bs) h))
 
+pub free-none : (sep : ℕ) → free sep [] ≡ true
+unfolding free each
+free-none sep = refl
+
 -- one byte more that is no separator
 pub free-more : (sep : ℕ) (s : List ℕ) (i : ℕ) → i < length s → free sep (take i s) ≡ true → eqb (getD s i 0) sep ≡ false → free sep (take (i + 1) s) ≡ true
 unfolding free each
