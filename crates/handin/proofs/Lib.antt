@@ -1,6 +1,8 @@
 -- What is proved of this crate.
+pub mod Buffers
 pub mod Bytes
 pub mod Examples
+pub mod FieldLaws
 pub mod Lines
 pub mod Masks
 pub mod Numerals

@@ -2,8 +2,8 @@
 -- Assumes nothing.
 use mathlib.Core.Path.{_≡_, refl, sym, ap, ap₂, _∙_}
 use mathlib.Core.Bool.{Bool, true, false, cond}
-use Prim.Native.Nat.{ℕ, zero, suc, _+_, _*_, _/_, _%_, _^_, _<_, zero-le, suc-le-suc}
-use native.Mathlib.Nat.{not-suc-le-zero, le-of-suc-le-suc, suc-ne-zero, suc-inj, pow-zero, pow-succ', div-one, div-div-eq-div-mul}
+use Prim.Native.Nat.{ℕ, zero, suc, _+_, _*_, _/_, _%_, _^_, _≤_, _<_, zero-le, suc-le-suc}
+use native.Mathlib.Nat.{not-suc-le-zero, le-of-suc-le-suc, suc-ne-zero, suc-inj, pow-zero, pow-succ', div-one, div-div-eq-div-mul, pow-le-pow-right, mod-eq-of-lt}
 use native.Mathlib.Omega.{arith}
 use Rattle.lists.proofs.Count.{toℕ, toℕ-le}
 use Rattle.members.specs.Members.{setOf}
@@ -54,3 +54,17 @@ setOf-digit (suc n) (suc i) p h =
     ∙ ap (λ (k : ℕ). k % 2) (sym (div-div-eq-div-mul (toℕ (p 0) + 2 * rest) 2 (2 ^ i)))
     ∙ ap (λ (k : ℕ). k / 2 ^ i % 2) half
     ∙ setOf-digit n i (λ j. p (suc j)) (le-of-suc-le-suc h)
+
+-- a member's value fits a mask
+pub value-lt : (i : ℕ) → i < 31 → 2 ^ i < 2147483648
+value-lt i h =
+    let l : i ≤ 30 = omega arith in
+    let two : 0 < 2 = omega arith in
+    let p : 2 ^ i ≤ 2 ^ 30 = pow-le-pow-right two l in
+    let q : 2 ^ 30 ≡ 1073741824 = refl in
+    omega (arith, p, q)
+
+pub value-shift : (i : ℕ) → i < 31 → 1 * 2 ^ i % 4294967296 ≡ 2 ^ i
+value-shift i h =
+    let one : 1 * 2 ^ i ≡ 2 ^ i = omega arith in
+    ap (λ (k : ℕ). k % 4294967296) one ∙ mod-eq-of-lt (omega (arith, value-lt i h))

@@ -1,15 +1,20 @@
 -- What the code's enums stand for, case by case.
 -- Assumes nothing.
-use Prim.Native.Nat.{ℕ}
+use Prim.Native.Nat.{ℕ, suc, _≤_}
 use mathlib.Core.Path.{_≡_}
 use mathlib.Core.Logic.{_⊎_}
 use mathlib.Core.Bool.{Bool, cond, _&&_, _||_}
-use mathlib.Core.List.{List}
+use mathlib.Core.Option.{none}
+use mathlib.Core.List.{List, [], _∷_}
 use lib.Dec.{eqb, leb}
+use lib.ListN.{length, drop}
 use Rattle.lists.specs.Tabulate.{each}
 use Rattle.handin.specs.Lines.{isDigit, decimal, isNumeral}
 use Rattle.handin.specs.declared.Kind.{Kind}
 use Rattle.handin.specs.declared.Kind.the-variants.{Digit, Tab, End, Letter, Other}
+use Rattle.handin.specs.Scanning.{after, numbersIn, joined}
+use Rattle.handin.specs.declared.Field.{Field}
+use Rattle.handin.specs.declared.Field.the-variants as F
 use Rattle.handin.specs.declared.Parsed.{Parsed}
 use Rattle.handin.specs.declared.Parsed.the-variants.{Number, Nothing}
 
@@ -27,3 +32,9 @@ digitsFrom high field = cond (each isDigit field && leb (decimal high field) 655
 
 unfoldable pub numeralOf : List ℕ → Parsed
 numeralOf field = cond (isNumeral field) (Number (decimal 0 field)) Nothing
+
+-- the next field, after a tab: its number, and where it ends; or no numeral there
+unfoldable pub NextField : List ℕ → Field → Type 0
+NextField rest (F.Number value end) =
+    (end ≤ length rest) × ((k : ℕ) → numbersIn (suc k) (after 9 rest) ≡ joined (value ∷ []) (numbersIn k (after 9 (drop end rest))))
+NextField rest F.Nothing = (k : ℕ) → numbersIn (suc k) (after 9 rest) ≡ none

@@ -5,10 +5,11 @@ ghost use mathlib.Core.Bool.{cond};
 ghost use mathlib.Core.Option.{some, none};
 ghost use Prim.Native.Nat.{_+_, _*_, _/_, _%_, _^_, _≤_, _<_};
 ghost use lib.Dec.{eqb};
-ghost use lib.ListN.{length, drop};
+ghost use lib.ListN.{length, drop, replicate};
+ghost use lib.Seq.{sets};
 ghost use Rattle.handin.specs.Lines.{isDigit, lineOf};
 ghost use Rattle.handin.specs.Scanning.{after, FirstEnds, numbersIn};
-ghost use Rattle.handin.specs.Answers.{kindOf, Marks, digitsFrom, numeralOf};
+ghost use Rattle.handin.specs.Answers.{kindOf, Marks, digitsFrom, numeralOf, NextField};
 
 // What a byte is.
 enum Kind {
@@ -115,4 +116,87 @@ fn numeral(field: &[u8]) -> Parsed
         return Parsed::Nothing;
     }
     digits(field)
+}
+
+// The next field of a line, after a tab.
+enum Field {
+    Number { value: u16, end: usize },
+    Nothing,
+}
+
+fn next_field(rest: &[u8]) -> Field
+    ensures { λ r. ⌜ NextField (now (rest .entry)) r ⌝ }
+{
+    if rest.len() < 1 {
+        return Field::Nothing;
+    }
+    let next = &rest[1..];
+    let e = scan(next, 9);
+    match numeral(&next[..e]) {
+        Parsed::Number(value) => Field::Number { value, end: e + 1 },
+        Parsed::Nothing => Field::Nothing,
+    }
+}
+
+// The numbers of the fields after a line's first, stored in `out`: exactly as many numerals as it has words.
+fn fields(line: &[u8], out: &mut [u16]) -> bool
+    ensures { λ r. ⌜ numbersIn (length (now (out .entry))) (after 9 (now (line .entry))) ≡ cond r (some (now (out .exit))) none ⌝ }
+{
+    let mut rest = line;
+    let mut i = 0;
+    while i < out.len() {
+        match next_field(rest) {
+            Field::Number { value, end } => {
+                out[i] = value;
+                rest = &rest[end..];
+            }
+            Field::Nothing => return false,
+        }
+        i += 1;
+    }
+    rest.len() == 0
+}
+
+// The numbers of a line that is a letter and then exactly as many numerals as `out` has words.
+fn numbers(line: &[u8], letter: u8, out: &mut [u16]) -> bool
+    requires { ⌜ Marks letter ⌝ }
+    ensures { λ r. ⌜ lineOf letter (length (now (out .entry))) (now (line .entry)) ≡ cond r (some (now (out .exit))) none ⌝ }
+{
+    let e = scan(line, 9);
+    if e != 1 {
+        return false;
+    }
+    if !is_mark(line[0], letter) {
+        return false;
+    }
+    fields(&line[1..], out)
+}
+
+// The value of a member's bit.
+fn power(i: usize) -> u32
+    requires { ⌜ i < 31 ⌝ }
+    ensures { λ r. ⌜ r ≡ 2 ^ i ⌝ }
+{
+    1u32 << i
+}
+
+fn store(share: &[u16], words: &mut [u16], at: usize)
+    requires { ⌜ at + length (now share) ≤ length (now words) ⌝ }
+    ensures { λ r. ⌜ now (words .exit) ≡ sets (now (words .entry)) at (now (share .entry)) ⌝ }
+{
+    let mut i = 0;
+    while i < share.len() {
+        words[at + i] = share[i];
+        i += 1;
+    }
+}
+
+fn clear(words: &mut [u16])
+    ensures { λ r. ⌜ now (words .exit) ≡ replicate (length (now (words .entry))) 0 ⌝ }
+{
+    let mut i = 0;
+    while i < words.len() {
+        words[i] = 0;
+        i += 1;
+    }
 }
