@@ -7,3 +7,4 @@ pub mod Lines
 pub mod Masks
 pub mod Numerals
 pub mod Placing
+pub mod Taking

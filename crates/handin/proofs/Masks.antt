@@ -3,7 +3,7 @@
 use mathlib.Core.Path.{_≡_, refl, sym, ap, ap₂, _∙_}
 use mathlib.Core.Bool.{Bool, true, false, cond}
 use Prim.Native.Nat.{ℕ, zero, suc, _+_, _*_, _/_, _%_, _^_, _≤_, _<_, zero-le, suc-le-suc}
-use native.Mathlib.Nat.{not-suc-le-zero, le-of-suc-le-suc, suc-ne-zero, suc-inj, pow-zero, pow-succ', div-one, div-div-eq-div-mul, pow-le-pow-right, mod-eq-of-lt}
+use native.Mathlib.Nat.{not-suc-le-zero, le-of-suc-le-suc, suc-ne-zero, suc-inj, pow-zero, pow-succ', div-one, div-div-eq-div-mul, pow-le-pow-right, mod-eq-of-lt, one-le-pow}
 use native.Mathlib.Omega.{arith}
 use Rattle.lists.proofs.Count.{toℕ, toℕ-le}
 use Rattle.members.specs.Members.{setOf}
@@ -68,3 +68,6 @@ pub value-shift : (i : ℕ) → i < 31 → 1 * 2 ^ i % 4294967296 ≡ 2 ^ i
 value-shift i h =
     let one : 1 * 2 ^ i ≡ 2 ^ i = omega arith in
     ap (λ (k : ℕ). k % 4294967296) one ∙ mod-eq-of-lt (omega (arith, value-lt i h))
+
+pub value-pos : (i : ℕ) → 0 < 2 ^ i
+value-pos i = let two : 0 < 2 = omega arith in one-le-pow i 2 two

@@ -1,7 +1,7 @@
 -- Laws of numerals, digit by digit.
 -- Assumes nothing.
 use mathlib.Core.Path.{_≡_, refl, sym, ap, _∙_}
-use mathlib.Core.Bool.{Bool, true, false, cond, _&&_, not}
+use mathlib.Core.Bool.{Bool, true, false, cond, _&&_, not, and-false}
 use mathlib.Core.List.{List, [], _∷_}
 use Prim.Native.Nat.{ℕ, suc, _+_, _*_, _-_, _≤_, _<_}
 use native.Mathlib.Numerals.{add-one}
@@ -28,10 +28,6 @@ digits-end v h = rw (le-leb v 65535 h)
 
 pub digits-done : (field : List ℕ) (i v : ℕ) → length field ≤ i → v ≤ 65535 → digitsFrom 0 field ≡ digitsFrom v (drop i field) → Number v ≡ digitsFrom 0 field
 digits-done field i v l h so = digits-end v h ∙ ap (digitsFrom v) (sym (drop-of-length-le field l)) ∙ sym so
-
-and-false : (b : Bool) → b && false ≡ false
-and-false true = refl
-and-false false = refl
 
 digits-big : (v : ℕ) (bs : List ℕ) → 65535 < v → Nothing ≡ digitsFrom v bs
 unfolding digitsFrom

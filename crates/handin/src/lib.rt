@@ -7,7 +7,11 @@ ghost use Prim.Native.Nat.{_+_, _*_, _/_, _%_, _^_, _≤_, _<_};
 ghost use lib.Dec.{eqb};
 ghost use lib.ListN.{length, drop, replicate};
 ghost use lib.Seq.{sets};
+ghost use mathlib.Core.List.{List};
+ghost use Rattle.shares.specs.Layout.{width};
 ghost use Rattle.handin.specs.Lines.{isDigit, lineOf};
+ghost use Rattle.handin.specs.Reader.{Share, capacity, takeNumbers, takeLine};
+ghost use Rattle.handin.specs.Progress.{InRange, Holds, Comes};
 ghost use Rattle.handin.specs.Scanning.{after, FirstEnds, numbersIn};
 ghost use Rattle.handin.specs.Answers.{kindOf, Marks, digitsFrom, numeralOf, NextField};
 
@@ -199,4 +203,55 @@ fn clear(words: &mut [u16])
         words[i] = 0;
         i += 1;
     }
+}
+
+// What a P line comes to: the present mask with its member, or a refusal's number.
+enum Line {
+    Accepted(u32),
+    Refused(u16),
+}
+
+// A line of the right shape: the member is judged, and only then is its share's place worked out.
+fn take_share(t: usize, d: usize, present: u32, numbers: &[u16], words: &mut [u16]) -> Line
+    requires { ⌜ InRange t d ⌝ }
+    requires { ⌜ (length (now numbers) ≡ 1 + width t d) × (length (now words) ≡ capacity) ⌝ }
+    requires { ⌜ present < 2147483648 ⌝ }
+    ensures { λ r. ⌜ ((taken : List Share) → Holds t d taken present (now (words .entry)) → Comes t d (takeNumbers t taken (some (now (numbers .entry)))) r (now (words .exit))) ⌝ }
+{
+    let n = 2 * t + 1;
+    let member = numbers[0] as usize;
+    if member < 1 {
+        return Line::Refused(24);
+    }
+    if n < member {
+        return Line::Refused(24);
+    }
+    let i = member - 1;
+    let value = power(i);
+    if present / value % 2 == 1 {
+        return Line::Refused(24);
+    }
+    let at = i * (d + 3 * n);
+    store(&numbers[1..], words, at);
+    Line::Accepted(present + value)
+}
+
+// One line: its shape whole, and then its member.
+fn take_line(
+    line: &[u8],
+    t: usize,
+    d: usize,
+    present: u32,
+    scratch: &mut [u16],
+    words: &mut [u16],
+) -> Line
+    requires { ⌜ InRange t d ⌝ }
+    requires { ⌜ (length (now scratch) ≡ 1 + width t d) × (length (now words) ≡ capacity) ⌝ }
+    requires { ⌜ present < 2147483648 ⌝ }
+    ensures { λ r. ⌜ ((taken : List Share) → Holds t d taken present (now (words .entry)) → Comes t d (takeLine t d taken (now (line .entry))) r (now (words .exit))) ⌝ }
+{
+    if !numbers(line, 80, scratch) {
+        return Line::Refused(23);
+    }
+    take_share(t, d, present, scratch, words)
 }
