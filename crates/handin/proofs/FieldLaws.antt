@@ -27,6 +27,15 @@ use Rattle.handin.proofs.Lines.{parts-some, numbers-none, numbers-end, 
 pub part-all : {A : Type 0} (a : ℕ) (l : List A) → take (length l - a) (drop a l) ≡ drop a l
 part-all a l = take-all (length l - a) (drop a l) (simp length-drop (omega arith))
 
+pub part-less : {A : Type 0} (a : ℕ) (l : List A) → 0 < a → a ≤ length l → length (take (length l - a) (drop a l)) < length l
+part-less a l low high =
+    let e : length (take (length l - a) (drop a l)) ≡ length l - a = ap length (part-all a l) ∙ length-drop a l in
+    omega (arith, e)
+
+-- a part that ends before the bytes do
+pub ends-before : (sep : ℕ) (s : List ℕ) (e : ℕ) → FirstEnds sep s e → (e ≡ length s → ⊥) → e + 1 ≤ length s
+ends-before sep s e ends ne = omega (arith, ends .inside, ne)
+
 -- what a field was judged to be
 pub number-good : (f : List ℕ) (v : ℕ) {r : Parsed} → r ≡ numeralOf f → r ≡ Number v → isNumeral f ≡ true
 unfolding numeralOf

@@ -7,4 +7,5 @@ pub mod Lines
 pub mod Masks
 pub mod Numerals
 pub mod Placing
+pub mod Reaching
 pub mod Taking

@@ -7,13 +7,13 @@ ghost use Prim.Native.Nat.{_+_, _*_, _/_, _%_, _^_, _≤_, _<_};
 ghost use lib.Dec.{eqb};
 ghost use lib.ListN.{length, drop, replicate};
 ghost use lib.Seq.{sets};
-ghost use mathlib.Core.List.{List};
+ghost use mathlib.Core.List.{List, []};
 ghost use Rattle.shares.specs.Layout.{width};
-ghost use Rattle.handin.specs.Lines.{isDigit, lineOf};
-ghost use Rattle.handin.specs.Reader.{Share, capacity, takeNumbers, takeLine};
+ghost use Rattle.handin.specs.Lines.{parts, isDigit, lineOf};
+ghost use Rattle.handin.specs.Reader.{Share, capacity, takeNumbers, takeLine, takeLines, readFrom};
 ghost use Rattle.handin.specs.Progress.{InRange, Holds, Comes};
 ghost use Rattle.handin.specs.Scanning.{after, FirstEnds, numbersIn};
-ghost use Rattle.handin.specs.Answers.{kindOf, Marks, digitsFrom, numeralOf, NextField};
+ghost use Rattle.handin.specs.Answers.{kindOf, Marks, digitsFrom, numeralOf, NextField, answerOf, cleared};
 
 // What a byte is.
 enum Kind {
@@ -254,4 +254,50 @@ fn take_line(
         return Line::Refused(23);
     }
     take_share(t, d, present, scratch, words)
+}
+
+// What was read, or a refusal's number.
+pub enum Outcome {
+    Accepted {
+        t: usize,
+        d: usize,
+        quorum: u16,
+        present: u32,
+    },
+    Refused(u16),
+}
+
+// The P lines one after the other. The buffer is all zeros at first, and is cleared by the caller on a refusal.
+fn take_lines(
+    text: &[u8],
+    t: usize,
+    d: usize,
+    quorum: u16,
+    scratch: &mut [u16],
+    words: &mut [u16],
+) -> Outcome
+    requires { ⌜ InRange t d ⌝ }
+    requires { ⌜ (length (now scratch) ≡ 1 + width t d) × (length (now words) ≡ capacity) ⌝ }
+    requires { ⌜ now words ≡ replicate (length (now words)) 0 ⌝ }
+    ensures { λ r. ⌜ answerOf r (cleared r (now (words .exit))) ≡ readFrom (length (now (words .entry))) t d quorum (takeLines t d [] (parts 10 (now (text .entry)))) ⌝ }
+{
+    let mut present: u32 = 0;
+    let mut rest = text;
+    while 0 < rest.len() {
+        let e = scan(rest, 10);
+        if e == rest.len() {
+            return Outcome::Refused(23);
+        }
+        match take_line(&rest[..e], t, d, present, scratch, words) {
+            Line::Accepted(p) => present = p,
+            Line::Refused(k) => return Outcome::Refused(k),
+        }
+        rest = &rest[e + 1..];
+    }
+    Outcome::Accepted {
+        t,
+        d,
+        quorum,
+        present,
+    }
 }
