@@ -2,17 +2,17 @@
 -- Assumes nothing.
 use mathlib.Core.Path.{_≡_, refl, sym, ap, ap₂, _∙_, subst}
 use mathlib.Core.Logic.{inl, inr}
-use mathlib.Core.Bool.{Bool, true, false, cond, _&&_}
+use mathlib.Core.Bool.{true, false, cond}
 use mathlib.Core.Option.{Option, none, some}
-use mathlib.Core.List.{List, [], _∷_, _++_, append-nil}
-use Prim.Native.Nat.{ℕ, zero, suc, _+_, _-_, _≤_, _<_}
+use mathlib.Core.List.{List, [], _∷_, append-nil}
+use Prim.Native.Nat.{ℕ, suc, _+_, _-_, _≤_, _<_}
 use native.Mathlib.Nat.{add-comm, not-suc-le-zero, le-of-suc-le-suc, suc-ne-zero}
 use native.Mathlib.Numerals.{add-one}
 use native.Mathlib.Omega.{arith}
 use borrow.Author.Tests.{eq-eqb, ne-eqb}
 use lib.Dec.{eqb, eqb·suc-zero}
 use lib.ListN.{length, getD, take, drop, set, length-drop}
-use lib.Seq.{length-take-le, getD-take, take-all, take-length, take-suc-set, drop-drop}
+use lib.Seq.{length-take-le, getD-take, take-all, take-suc-set, drop-drop}
 use Rattle.lists.proofs.Bools.{test}
 use Rattle.handin.specs.Lines.{parts, decimal, isNumeral, isLetter, numbersOf, lineOf}
 use Rattle.handin.specs.Scanning.{after, FirstEnds, numbersIn, joined}

@@ -8,4 +8,5 @@ pub mod Masks
 pub mod Numerals
 pub mod Placing
 pub mod Reaching
+pub mod Reading
 pub mod Taking

@@ -1,23 +1,22 @@
 -- Laws of lines, fields and numerals: a text is read line by line, and a line field by field.
 -- Assumes nothing.
-use mathlib.Core.Path.{_≡_, refl, sym, ap, _∙_, subst}
+use mathlib.Core.Path.{_≡_, refl, sym, ap, _∙_}
 use mathlib.Core.Logic.{_⊎_, inl, inr}
-use mathlib.Core.Bool.{Bool, true, false, cond, _&&_, not}
+use mathlib.Core.Bool.{Bool, true, false, cond, not}
 use mathlib.Core.Option.{Option, none, some}
-use mathlib.Core.List.{List, [], _∷_, _++_, append-assoc, append-nil}
-use Prim.Native.Nat.{ℕ, zero, suc, _+_, _*_, _-_, _≤_, _<_}
-use native.Mathlib.Nat.{not-suc-le-zero}
+use mathlib.Core.List.{List, [], _∷_, _++_, append-assoc}
+use Prim.Native.Nat.{ℕ, suc, _+_, _*_, _-_, _≤_, _<_}
 use native.Mathlib.Numerals.{add-one}
 use native.Mathlib.Omega.{arith}
-use borrow.Author.Tests.{eq-eqb, ne-eqb, eqb-true, le-leb, lt-leb, not-true}
-use lib.Dec.{eqb, leb, eqb·zero-suc, eqb·suc-zero, eqb·suc-suc}
+use borrow.Author.Tests.{eq-eqb, eqb-true, not-true}
+use lib.Dec.{eqb, eqb·zero-suc, eqb·suc-zero, eqb·suc-suc}
 use lib.ListN.{length, getD, take, drop, take-append-drop, drop-of-length-le}
 use lib.Seq.{take-suc, drop-cons, take-all}
 use Rattle.lists.specs.Tabulate.{each}
 use Rattle.lists.proofs.Bools.{and-intro, and-left, and-right, test}
 use Rattle.lists.proofs.Blocks.{each-append}
-use Rattle.handin.specs.Lines.{before, parts, isDigit, decimal, isNumeral, numerals}
-use Rattle.handin.specs.Reader.{Share, Taken, shares, refused, takeLine, takeLines}
+use Rattle.handin.specs.Lines.{before, parts, decimal, isNumeral, numerals}
+use Rattle.handin.specs.Reader.{Share, shares, refused, takeLine, takeLines}
 use Rattle.handin.specs.Scanning.{free, after, FirstEnds, numbersIn, joined}
 
 -- ---- parts

@@ -1,7 +1,7 @@
 -- Laws of the set of those that pass a test, as a mask.
 -- Assumes nothing.
 use mathlib.Core.Path.{_≡_, refl, sym, ap, ap₂, _∙_}
-use mathlib.Core.Bool.{Bool, true, false, cond}
+use mathlib.Core.Bool.{Bool, true, false}
 use Prim.Native.Nat.{ℕ, zero, suc, _+_, _*_, _/_, _%_, _^_, _≤_, _<_, zero-le, suc-le-suc}
 use native.Mathlib.Nat.{not-suc-le-zero, le-of-suc-le-suc, suc-ne-zero, suc-inj, pow-zero, pow-succ', div-one, div-div-eq-div-mul, pow-le-pow-right, mod-eq-of-lt, one-le-pow}
 use native.Mathlib.Omega.{arith}

@@ -2,19 +2,18 @@
 -- Assumes nothing.
 use mathlib.Core.Path.{_≡_, refl, sym, ap, _∙_}
 use mathlib.Core.Bool.{Bool, true, false, cond, _&&_, not, and-false}
-use mathlib.Core.List.{List, [], _∷_}
-use Prim.Native.Nat.{ℕ, suc, _+_, _*_, _-_, _≤_, _<_}
+use mathlib.Core.List.{List, []}
+use Prim.Native.Nat.{ℕ, _+_, _*_, _-_, _≤_, _<_}
 use native.Mathlib.Numerals.{add-one}
 use native.Mathlib.Omega.{arith}
 use borrow.Author.Tests.{eq-eqb, ne-eqb, le-leb, lt-leb, lt-ltb, le-ltb, leb-true}
-use lib.Dec.{eqb, leb, ltb}
+use lib.Dec.{leb, ltb}
 use lib.ListN.{length, getD, drop, drop-of-length-le}
 use lib.Seq.{drop-cons}
 use Rattle.lists.specs.Tabulate.{each}
 use Rattle.lists.proofs.Bools.{and-left}
 use Rattle.handin.specs.Lines.{isDigit, decimal, leadsWithZero, isNumeral}
 use Rattle.handin.specs.Answers.{digitsFrom, numeralOf}
-use Rattle.handin.specs.declared.Parsed.{Parsed}
 use Rattle.handin.specs.declared.Parsed.the-variants.{Number, Nothing}
 use Rattle.handin.proofs.Lines.{decimal-ge}
 

@@ -1,7 +1,7 @@
 -- The state that the reader has reached, from line to line.
 -- Assumes nothing.
 use mathlib.Core.Path.{_≡_, refl, sym, ap, ap₂, _∙_}
-use mathlib.Core.Bool.{Bool, true, false}
+use mathlib.Core.Bool.{false}
 use mathlib.Core.Logic.{inl, inr}
 use mathlib.Core.Option.{some}
 use mathlib.Core.List.{List, [], _∷_, _++_}
@@ -11,7 +11,7 @@ use borrow.Author.Tests.{eq-eqb, ne-eqb, eqb-true, eqb-false}
 use lib.Dec.{eqb}
 use lib.ListN.{length, replicate, length-replicate, replicate-append-replicate}
 use lib.Seq.{sets}
-use Rattle.lists.specs.Tabulate.{tab, concat, first}
+use Rattle.lists.specs.Tabulate.{first}
 use Rattle.lists.proofs.Bools.{test}
 use Rattle.lists.proofs.Count.{toℕ}
 use Rattle.lists.proofs.Blocks.{sets-block, concat-replicate}
@@ -19,7 +19,7 @@ use Rattle.members.specs.Members.{size, setOf}
 use Rattle.shares.specs.Layout.{width}
 use Rattle.handin.specs.Reader.{Share, capacity, shareOf, isSome, wordsOr, placed}
 use Rattle.handin.specs.Progress.{Holds}
-use Rattle.handin.proofs.Masks.{setOf-ext, setOf-add, setOf-digit}
+use Rattle.handin.proofs.Masks.{setOf-add, setOf-digit}
 
 -- the share taken last, and the others
 pub share-same : (s : Share) (taken : List Share) (i : ℕ) → s .member ≡ i → shareOf (s ∷ taken) i ≡ some s

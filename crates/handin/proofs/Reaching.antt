@@ -2,27 +2,26 @@
 -- Assumes nothing.
 use mathlib.Core.Path.{_≡_, refl, sym, ap, ap₂, _∙_, subst}
 use mathlib.Core.List.{List, [], _∷_}
-use Prim.Native.Nat.{ℕ, suc, _+_, _*_, _^_, _≤_, _<_}
+use Prim.Native.Nat.{ℕ, _+_, _*_, _^_, _≤_, _<_}
 use native.Mathlib.Nat.{not-suc-le-zero, pow-le-pow-right}
 use native.Mathlib.Numerals.{add-one}
 use native.Mathlib.Omega.{arith}
-use lib.ListN.{length, getD, take, drop, replicate, drop-of-length-le}
+use lib.ListN.{length, take, drop, replicate, drop-of-length-le}
 use lib.Seq.{drop-cons, take-all}
 use Rattle.members.specs.Members.{size}
 use Rattle.shares.specs.Layout.{width}
 use Rattle.handin.specs.Lines.{parts}
-use Rattle.handin.specs.Reader.{Share, HandIn, capacity, shareOf, isSome, Taken, shares, refused, takeLine, takeLines, unread, readFrom}
+use Rattle.handin.specs.Reader.{Share, capacity, shareOf, isSome, Taken, shares, refused, takeLine, takeLines, unread, readFrom}
 use Rattle.handin.specs.Scanning.{after, FirstEnds}
 use Rattle.handin.specs.Progress.{InRange, Holds, Comes}
 use Rattle.handin.specs.Answers.{answerOf, cleared}
 use Rattle.handin.specs.declared.Line.{Line}
 use Rattle.handin.specs.declared.Line.the-variants as L
-use Rattle.handin.specs.declared.Outcome.{Outcome}
 use Rattle.handin.specs.declared.Outcome.the-variants as O
 use Rattle.handin.proofs.Lines.{parts-some, lines-next, lines-refused, lines-unended, text-end}
 use Rattle.handin.proofs.Masks.{setOf-lt}
 use Rattle.handin.proofs.Placing.{holds-none}
-use Rattle.handin.proofs.Taking.{place-end, width-is}
+use Rattle.handin.proofs.Taking.{place-end}
 
 -- all lines come to what the lines left do, after the shares taken
 pub record Reached (t d : ℕ) (all : Taken) (rest : List ℕ) (present : ℕ) (words : List ℕ) : Type 0 where
@@ -49,6 +48,10 @@ reached-start t d text words r len zeros =
 more-parts : (rest : List ℕ) (e : ℕ) → e < length rest → after 10 (drop e rest) ≡ parts 10 (drop (e + 1) rest)
 unfolding after
 more-parts rest e h = rw (drop-cons rest e 0 h, add-one)
+
+pub first-split : (text : List ℕ) (e : ℕ) → FirstEnds 10 text e → (e ≡ length text → ⊥) → parts 10 text ≡ take e text ∷ parts 10 (drop (e + 1) text)
+first-split text e ends ne =
+    ends .splits ∙ ap (λ (l : List (List ℕ)). take e text ∷ l) (more-parts text e (omega (arith, ends .inside, ne)))
 
 unended : (t d : ℕ) (taken : List Share) (rest : List ℕ) → 0 < length rest → takeLines t d taken (rest ∷ []) ≡ refused 23
 unended t d taken [] h = absurd (not-suc-le-zero h)
@@ -77,15 +80,12 @@ module _ (t d : ℕ) (all : Taken) (rest : List ℕ) (present : ℕ) (words : Li
         s .so ∙ rw (ends .splits, a, b) (unended t d (s .taken) rest h)
 
     module _ (ne : e ≡ length rest → ⊥) (after-words : List ℕ) (r : Line) (comes : (taken : List Share) → Holds t d taken present words → Comes t d (takeLine t d taken (take e rest)) r after-words) where
-      split : parts 10 rest ≡ take e rest ∷ parts 10 (drop (e + 1) rest)
-      split = ends .splits ∙ ap (λ (l : List (List ℕ)). take e rest ∷ l) (more-parts rest e (omega (arith, ends .inside, ne)))
-
       pub reached-refused : (k : ℕ) → r ≡ L.Refused k → all ≡ refused k
       unfolding Comes
       reached-refused k q =
           let p : (x : List ℕ) × (xs : List (List ℕ)) × (parts 10 (drop (e + 1) rest) ≡ x ∷ xs) = parts-some 10 (drop (e + 1) rest) in
           let c : Comes t d (takeLine t d (s .taken) (take e rest)) (L.Refused k) after-words = subst (λ (x : Line). Comes t d (takeLine t d (s .taken) (take e rest)) x after-words) q (comes (s .taken) (s .holds)) in
-          s .so ∙ rw (split, p .2) (lines-refused t d (s .taken) (take e rest) (p .0) (p .1) k c)
+          s .so ∙ rw (first-split rest e ends ne, p .2) (lines-refused t d (s .taken) (take e rest) (p .0) (p .1) k c)
 
       pub reached-next : (m : ℕ) (more : List ℕ) → r ≡ L.Accepted m → more ≡ drop (e + 1) rest → Reached t d all more m after-words
       unfolding Comes
@@ -94,7 +94,7 @@ module _ (t d : ℕ) (all : Taken) (rest : List ℕ) (present : ℕ) (words : Li
           let c : Comes t d (takeLine t d (s .taken) (take e rest)) (L.Accepted m) after-words = subst (λ (x : Line). Comes t d (takeLine t d (s .taken) (take e rest)) x after-words) q (comes (s .taken) (s .holds)) in
           record {
             taken = c .0;
-            so = s .so ∙ rw (split, g, p .2) (lines-next t d (s .taken) (c .0) (take e rest) (p .0) (p .1) (c .1));
+            so = s .so ∙ rw (first-split rest e ends ne, g, p .2) (lines-next t d (s .taken) (c .0) (take e rest) (p .0) (p .1) (c .1));
             holds = c .2;
           }
 

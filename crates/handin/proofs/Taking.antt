@@ -1,23 +1,22 @@
 -- Laws of P lines as the code takes them.
 -- Assumes nothing.
-use mathlib.Core.Path.{_≡_, refl, sym, ap, ap₂, _∙_, subst}
+use mathlib.Core.Path.{_≡_, refl, sym, ap, ap₂, _∙_}
 use mathlib.Core.Logic.{_⊎_, inl, inr}
-use mathlib.Core.Bool.{Bool, true, false, cond, _&&_, not, and-false}
-use mathlib.Core.Option.{Option, none, some}
-use mathlib.Core.List.{List, [], _∷_, _++_}
-use Prim.Native.Nat.{ℕ, zero, suc, _+_, _-_, _*_, _/_, _%_, _^_, _≤_, _<_}
+use mathlib.Core.Bool.{Bool, true, false, cond, not, and-false}
+use mathlib.Core.Option.{none, some}
+use mathlib.Core.List.{List, _∷_}
+use Prim.Native.Nat.{ℕ, suc, _+_, _-_, _*_, _/_, _%_, _^_, _≤_, _<_}
 use native.Mathlib.Nat.{mul-le-mul, suc-ne-zero}
 use native.Mathlib.Omega.{arith}
 use borrow.Author.Tests.{le-leb, lt-leb}
 use lib.Dec.{leb}
 use lib.ListN.{length, getD, take, drop, length-drop}
-use lib.Seq.{sets}
-use Rattle.lists.proofs.Bools.{test}
+use lib.Seq.{sets, length-take-le}
 use Rattle.lists.proofs.Count.{toℕ}
-use Rattle.members.specs.Members.{size, setOf}
+use Rattle.members.specs.Members.{size}
 use Rattle.shares.specs.Layout.{width}
-use Rattle.handin.specs.Lines.{parts, lineOf}
-use Rattle.handin.specs.Reader.{Share, shareOf, isSome, Taken, shares, refused, takeShare, takeNumbers, takeLine, takeLines}
+use Rattle.handin.specs.Lines.{lineOf}
+use Rattle.handin.specs.Reader.{Share, shareOf, isSome, shares, takeShare, takeNumbers, takeLine}
 use Rattle.handin.specs.Progress.{InRange, Holds, Comes}
 use Rattle.handin.specs.declared.Line.{Line}
 use Rattle.handin.specs.declared.Line.the-variants.{Accepted, Refused}
@@ -122,3 +121,9 @@ line-none letter k line out ns e h q = ap (λ (j : ℕ). lineOf letter j line) (
 
 pub line-some : (letter k : ℕ) (line out ns : List ℕ) {b : Bool} → length out ≡ k → lineOf letter (length out) line ≡ cond b (some ns) none → b ≡ true → lineOf letter k line ≡ some ns
 line-some letter k line out ns e h q = ap (λ (j : ℕ). lineOf letter j line) (sym e) ∙ h ∙ ap (λ (c : Bool). cond c (some ns) none) q
+
+-- a P line's numbers fit 158 words
+pub scratch-length : (t d : ℕ) (l : List ℕ) → InRange t d → length l ≡ 158 → length (take (1 + (d + 3 * (2 * t + 1))) l) ≡ 1 + (d + 3 * (2 * t + 1))
+scratch-length t d l r e =
+    let h : 1 + (d + 3 * (2 * t + 1)) ≤ length l = omega (arith, r .t-high, r .d-high, e) in
+    length-take-le (1 + (d + 3 * (2 * t + 1))) l h

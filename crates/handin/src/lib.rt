@@ -1,16 +1,16 @@
 // The reader of hand-in text: bytes, fields, lines, and the whole text into a buffer of shares.
 ghost use mathlib.Core.Path.{_≡_};
-ghost use mathlib.Core.Logic.{_⊎_};
 ghost use mathlib.Core.Bool.{cond};
 ghost use mathlib.Core.Option.{some, none};
 ghost use Prim.Native.Nat.{_+_, _*_, _/_, _%_, _^_, _≤_, _<_};
 ghost use lib.Dec.{eqb};
-ghost use lib.ListN.{length, drop, replicate};
+ghost use lib.ListN.{length, replicate};
 ghost use lib.Seq.{sets};
 ghost use mathlib.Core.List.{List, []};
 ghost use Rattle.shares.specs.Layout.{width};
 ghost use Rattle.handin.specs.Lines.{parts, isDigit, lineOf};
-ghost use Rattle.handin.specs.Reader.{Share, capacity, takeNumbers, takeLine, takeLines, readFrom};
+ghost use Rattle.handin.specs.Reader.{Share, capacity, takeNumbers, takeLine, takeLines, readFrom, readNumbers, readLines};
+ghost use Rattle.handin.specs.Reader as reader;
 ghost use Rattle.handin.specs.Progress.{InRange, Holds, Comes};
 ghost use Rattle.handin.specs.Scanning.{after, FirstEnds, numbersIn};
 ghost use Rattle.handin.specs.Answers.{kindOf, Marks, digitsFrom, numeralOf, NextField, answerOf, cleared};
@@ -299,5 +299,85 @@ fn take_lines(
         d,
         quorum,
         present,
+    }
+}
+
+// The numbers of a D line, and the P lines after it.
+fn read_numbers(text: &[u8], first: &[u16], scratch: &mut [u16], words: &mut [u16]) -> Outcome
+    requires { ⌜ (length (now first) ≡ 3) × (length (now scratch) ≡ 158) ⌝ }
+    requires { ⌜ (length (now words) ≡ capacity) × (now words ≡ replicate (length (now words)) 0) ⌝ }
+    ensures { λ r. ⌜ answerOf r (cleared r (now (words .exit))) ≡ readNumbers (length (now (words .entry))) (some (now (first .entry))) (parts 10 (now (text .entry))) ⌝ }
+{
+    let t = first[0] as usize;
+    let d = first[1] as usize;
+    if t < 1 {
+        return Outcome::Refused(22);
+    }
+    if 15 < t {
+        return Outcome::Refused(22);
+    }
+    if d < 1 {
+        return Outcome::Refused(22);
+    }
+    if 64 < d {
+        return Outcome::Refused(22);
+    }
+    let k = 1 + (d + 3 * (2 * t + 1));
+    take_lines(text, t, d, first[2], &mut scratch[..k], words)
+}
+
+// A text's first line, which a byte 10 ends, and the lines after it.
+fn read_lines(text: &[u8], first: &mut [u16], scratch: &mut [u16], words: &mut [u16]) -> Outcome
+    requires { ⌜ (length (now first) ≡ 3) × (length (now scratch) ≡ 158) ⌝ }
+    requires { ⌜ (length (now words) ≡ capacity) × (now words ≡ replicate (length (now words)) 0) ⌝ }
+    ensures { λ r. ⌜ answerOf r (cleared r (now (words .exit))) ≡ readLines (length (now (words .entry))) (parts 10 (now (text .entry))) ⌝ }
+{
+    let e = scan(text, 10);
+    if e == text.len() {
+        return Outcome::Refused(22);
+    }
+    if !numbers(&text[..e], 68, first) {
+        return Outcome::Refused(22);
+    }
+    read_numbers(&text[e + 1..], first, scratch, words)
+}
+
+// Lends what a line's numbers are kept in: 3 of a D line, at most 158 of a P line.
+fn read_text(text: &[u8], words: &mut [u16]) -> Outcome
+    requires { ⌜ (length (now words) ≡ capacity) × (now words ≡ replicate (length (now words)) 0) ⌝ }
+    ensures { λ r. ⌜ answerOf r (cleared r (now (words .exit))) ≡ readLines (length (now (words .entry))) (parts 10 (now (text .entry))) ⌝ }
+{
+    let mut first = [0u16; 3];
+    let mut scratch = [0u16; 158];
+    read_lines(text, &mut first, &mut scratch, words)
+}
+
+// Reads hand-in text into a buffer of 4867 words: the shares in member order, zeros for absent members and after the last share.
+pub fn read(text: &[u8], words: &mut [u16]) -> Outcome
+    ensures { λ r. ⌜ answerOf r (now (words .exit)) ≡ reader.read (now (text .entry)) (length (now (words .entry))) ⌝ }
+{
+    clear(words);
+    if words.len() != 4867 {
+        return Outcome::Refused(25);
+    }
+    if 40000 < text.len() {
+        return Outcome::Refused(21);
+    }
+    match read_text(text, words) {
+        Outcome::Accepted {
+            t,
+            d,
+            quorum,
+            present,
+        } => Outcome::Accepted {
+            t,
+            d,
+            quorum,
+            present,
+        },
+        Outcome::Refused(k) => {
+            clear(words);
+            Outcome::Refused(k)
+        }
     }
 }

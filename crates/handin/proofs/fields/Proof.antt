@@ -1,6 +1,6 @@
 -- `handin::fields` meets its contract. The loop's invariant: the numbers stored, and those of the fields left, are the line's.
 -- Assumes nothing.
-use mathlib.Core.Path.{_≡_, refl, sym, _∙_}
+use mathlib.Core.Path.{_≡_, refl}
 use Prim.Native.Nat.{_≤_, _-_}
 use native.Mathlib.Omega.{arith}
 use borrow.Author.Needs.{needs}

@@ -2,7 +2,6 @@
 -- Assumes nothing.
 use mathlib.Core.Path.{refl, sym}
 use mathlib.Core.Logic.{inl}
-use native.Mathlib.Omega.{arith}
 use lib.Seq.{length-take-le}
 use Rattle.handin.proofs.FieldLaws.{part-all, number-good, number-value, number-bad, next-none, next-bad, next-good}
 use borrow.Author.Needs.{needs}

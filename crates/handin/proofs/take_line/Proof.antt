@@ -1,6 +1,6 @@
 -- `handin::take_line` meets its contract: the line's shape, then the member, then the store.
 -- Assumes nothing.
-use mathlib.Core.Path.{refl, sym, ap, _∙_}
+use mathlib.Core.Path.{refl}
 use mathlib.Core.Logic.{inr}
 use borrow.Author.Tests.{not-true, not-false}
 use Rattle.handin.proofs.Taking.{take-none, take-some, line-none, line-some}

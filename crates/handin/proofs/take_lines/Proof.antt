@@ -7,7 +7,7 @@ use Prim.Native.Nat.{_≤_, _-_, _+_}
 use native.Mathlib.Nat.{le-trans, le-of-lt}
 use native.Mathlib.Omega.{arith}
 use borrow.Author.Needs.{needs}
-use lib.ListN.{length, length-take, length-drop}
+use lib.ListN.{length}
 use lib.Seq.{length-take-le}
 use Rattle.handin.specs.Lines.{parts}
 use Rattle.handin.specs.Reader.{takeLines}

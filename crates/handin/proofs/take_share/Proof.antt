@@ -1,9 +1,8 @@
 -- `handin::take_share` meets its contract: the member is judged, and then its share is stored.
 -- Assumes nothing.
 use lib.ListN.{getD}
-use mathlib.Core.Path.{refl, sym, _∙_}
 use mathlib.Core.Logic.{inl, inr}
-use Prim.Native.Nat.{_-_, _+_, _*_}
+use Prim.Native.Nat.{_-_}
 use native.Mathlib.Omega.{arith}
 use Rattle.handin.proofs.Masks.{value-lt, value-pos}
 use Rattle.handin.proofs.Taking.{place-end, share-fits, take-out, take-met, take-in}
