@@ -10,14 +10,14 @@ use borrow.Author.Fill.{fill-more}
 use lib.ListN.{length, getD, set, drop, replicate, drop-of-length-le}
 use lib.Seq.{sets, drop-cons}
 
--- zeros so far
-pub fill-step : (i : ℕ) (d l : List ℕ) → i < length d → l ≡ replicate i 0 ++ drop i d → set l i 0 ≡ replicate (i + 1) 0 ++ drop (i + 1) d
-fill-step i d l h e = ap (λ (x : List ℕ). set x i 0) e ∙ fill-more i 0 d h
+-- the word so far
+pub fill-step : (i v : ℕ) (d l : List ℕ) → i < length d → l ≡ replicate i v ++ drop i d → set l i v ≡ replicate (i + 1) v ++ drop (i + 1) d
+fill-step i v d l h e = ap (λ (x : List ℕ). set x i v) e ∙ fill-more i v d h
 
-pub fill-all : (i : ℕ) (d l : List ℕ) → i ≤ length d → length d ≤ i → l ≡ replicate i 0 ++ drop i d → l ≡ replicate (length d) 0
-fill-all i d l low high e =
+pub fill-all : (i v : ℕ) (d l : List ℕ) → i ≤ length d → length d ≤ i → l ≡ replicate i v ++ drop i d → l ≡ replicate (length d) v
+fill-all i v d l low high e =
     let n : i ≡ length d = omega arith in
-    e ∙ ap (λ (x : List ℕ). replicate i 0 ++ x) (drop-of-length-le d high) ∙ append-nil (replicate i 0) ∙ ap (λ (k : ℕ). replicate k 0) n
+    e ∙ ap (λ (x : List ℕ). replicate i v ++ x) (drop-of-length-le d high) ∙ append-nil (replicate i v) ∙ ap (λ (k : ℕ). replicate k v) n
 
 -- stores so far, and those left
 pub store-none : (words share : List ℕ) (at : ℕ) → sets words (at + 0) share ≡ sets words at share

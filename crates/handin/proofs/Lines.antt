@@ -15,8 +15,8 @@ use lib.Seq.{take-suc, drop-cons, take-all}
 use Rattle.lists.specs.Tabulate.{each}
 use Rattle.lists.proofs.Bools.{and-intro, and-left, and-right, test}
 use Rattle.lists.proofs.Blocks.{each-append}
-use Rattle.handin.specs.Lines.{before, parts, decimal, isNumeral, numerals}
-use Rattle.handin.specs.Reader.{Share, shares, refused, takeLine, takeLines}
+use Rattle.handin.specs.Lines.{before, parts, decimal, isNumeral, numerals, lineOf}
+use Rattle.handin.specs.Reader.{Share, shares, refused, takeLine, takeLines, readNumbers, readLines}
 use Rattle.handin.specs.Scanning.{free, after, FirstEnds, numbersIn, joined}
 
 -- ---- parts
@@ -162,3 +162,10 @@ text-refused t d taken line rest k h e =
 pub text-end : (t d : ℕ) (taken : List Share) → takeLines t d taken (parts 10 []) ≡ shares taken
 unfolding parts
 text-end t d taken = lines-end t d taken
+
+-- and of its first line
+pub text-first : (len : ℕ) (line rest : List ℕ) → free 10 line ≡ true → readLines len (parts 10 (line ++ 10 ∷ rest)) ≡ readNumbers len (lineOf 68 3 line) (parts 10 rest)
+unfolding readLines
+text-first len line rest h =
+    let r : (p : List ℕ) × (ps : List (List ℕ)) × (parts 10 rest ≡ p ∷ ps) = parts-some 10 rest in
+    rw (parts-next 10 line rest h, r .2)

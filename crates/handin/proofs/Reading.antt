@@ -1,6 +1,6 @@
 -- Laws of the whole text: its lengths, its first line, and the lines after it.
 -- Assumes nothing.
-use mathlib.Core.Path.{_≡_, sym, ap, ap₂, _∙_}
+use mathlib.Core.Path.{_≡_, refl, sym, ap, ap₂, _∙_}
 use mathlib.Core.Logic.{_⊎_, inl, inr}
 use mathlib.Core.Bool.{and-false}
 use mathlib.Core.Option.{Option, none, some}
@@ -20,10 +20,14 @@ use Rattle.handin.specs.declared.Outcome.the-variants.{Accepted, Refused
 use Rattle.handin.proofs.Lines.{parts-some}
 use Rattle.handin.proofs.Reaching.{first-split}
 
--- a refusal's answer
+-- a refusal's answer: the buffer is filled with 0, or will be
+pub refused-so : (k len : ℕ) (zeros : List ℕ) → zeros ≡ replicate len 0 → answerOf (Refused k) zeros ≡ unread len k
+unfolding answerOf unread
+refused-so k len zeros z = rw z
+
 refusal : (len k : ℕ) (ws : List ℕ) → length ws ≡ len → answerOf (Refused k) (cleared (Refused k) ws) ≡ unread len k
-unfolding answerOf cleared unread
-refusal len k ws e = rw e
+unfolding cleared
+refusal len k ws e = refused-so k len (replicate (length ws) 0) (ap (λ (n : ℕ). replicate n 0) e)
 
 -- the numbers of a D line: t and d are in range or not
 module _ (len : ℕ) (ns ws : List ℕ) (lines : List (List ℕ)) (e : length ws ≡ len) where
@@ -65,24 +69,23 @@ module _ (len : ℕ) (text : List ℕ) (e : ℕ) (ends : FirstEnds 10 text e) wh
     text-good ns more q m = ap₂ (λ (o : Option (List ℕ)) (l : List ℕ). readNumbers len o (parts 10 l)) (sym q) m ∙ sym lines-are
 
 -- the lengths of the buffer and of the text
-module _ (text ws : List ℕ) (len : ℕ) where
-  pub read-25 : ws ≡ replicate len 0 → (len ≡ 4867 → ⊥) → answerOf (Refused 25) ws ≡ read text len
-  unfolding answerOf read unread
-  read-25 w h = rw (w, ne-eqb len 4867 h)
+module _ (text : List ℕ) (len : ℕ) where
+  pub read-25 : (len ≡ 4867 → ⊥) → unread len 25 ≡ read text len
+  unfolding read
+  read-25 h = rw (ne-eqb len 4867 h)
 
-  pub read-21 : ws ≡ replicate len 0 → len ≡ 4867 → 40000 < length text → answerOf (Refused 21) ws ≡ read text len
-  unfolding answerOf read unread
-  read-21 w h l = rw (w, eq-eqb len 4867 h, lt-leb (length text) 40000 l)
+  pub read-21 : len ≡ 4867 → 40000 < length text → unread len 21 ≡ read text len
+  unfolding read
+  read-21 h l = rw (eq-eqb len 4867 h, lt-leb (length text) 40000 l)
 
   module _ (h : len ≡ 4867) (l : length text ≤ 40000) (had : ℕ) (same : had ≡ len) where
     read-is : readLines had (parts 10 text) ≡ read text len
     unfolding read
     read-is = rw (same, eq-eqb len 4867 h, le-leb (length text) 40000 l)
 
-    pub read-accepted : (t d quorum present : ℕ) {r : Outcome} → answerOf r (cleared r ws) ≡ readLines had (parts 10 text) → r ≡ Accepted t d quorum present → answerOf (Accepted t d quorum present) ws ≡ read text len
+    pub read-accepted : (ws : List ℕ) (t d quorum present : ℕ) {r : Outcome} → answerOf r (cleared r ws) ≡ readLines had (parts 10 text) → r ≡ Accepted t d quorum present → answerOf (Accepted t d quorum present) ws ≡ read text len
     unfolding cleared
-    read-accepted t d quorum present a q = ap (λ (x : Outcome). answerOf x (cleared x ws)) (sym q) ∙ a ∙ read-is
+    read-accepted ws t d quorum present a q = ap (λ (x : Outcome). answerOf x (cleared x ws)) (sym q) ∙ a ∙ read-is
 
-    pub read-refused : (k : ℕ) (zeros : List ℕ) {r : Outcome} → answerOf r (cleared r ws) ≡ readLines had (parts 10 text) → r ≡ Refused k → zeros ≡ replicate (length ws) 0 → answerOf (Refused k) zeros ≡ read text len
-    unfolding cleared
-    read-refused k zeros a q z = ap (answerOf (Refused k)) z ∙ ap (λ (x : Outcome). answerOf x (cleared x ws)) (sym q) ∙ a ∙ read-is
+    pub read-refused : (ws : List ℕ) (k : ℕ) {r : Outcome} → answerOf r (cleared r ws) ≡ readLines had (parts 10 text) → r ≡ Refused k → unread (length ws) k ≡ read text len
+    read-refused ws k a q = sym (refusal (length ws) k ws refl) ∙ ap (λ (x : Outcome). answerOf x (cleared x ws)) (sym q) ∙ a ∙ read-is

@@ -2,15 +2,14 @@
 ghost use mathlib.Core.Path.{_≡_};
 ghost use mathlib.Core.Bool.{cond};
 ghost use mathlib.Core.Option.{some, none};
-ghost use Prim.Native.Nat.{_+_, _*_, _/_, _%_, _^_, _≤_, _<_};
+ghost use Prim.Native.Nat.{_+_, _^_, _≤_, _<_};
 ghost use lib.Dec.{eqb};
 ghost use lib.ListN.{length, replicate};
 ghost use lib.Seq.{sets};
 ghost use mathlib.Core.List.{List, []};
 ghost use Rattle.shares.specs.Layout.{width};
 ghost use Rattle.handin.specs.Lines.{parts, isDigit, lineOf};
-ghost use Rattle.handin.specs.Reader.{Share, capacity, takeNumbers, takeLine, takeLines, readFrom, readNumbers, readLines};
-ghost use Rattle.handin.specs.Reader as reader;
+ghost use Rattle.handin.specs.Reader.{Share, capacity, takeNumbers, takeLine, takeLines, unread, readFrom, readNumbers, readLines, read};
 ghost use Rattle.handin.specs.Progress.{InRange, Holds, Comes};
 ghost use Rattle.handin.specs.Scanning.{after, FirstEnds, numbersIn};
 ghost use Rattle.handin.specs.Answers.{kindOf, Marks, digitsFrom, numeralOf, NextField, answerOf, cleared};
@@ -195,12 +194,12 @@ fn store(share: &[u16], words: &mut [u16], at: usize)
     }
 }
 
-fn clear(words: &mut [u16])
-    ensures { λ r. ⌜ now (words .exit) ≡ replicate (length (now (words .entry))) 0 ⌝ }
+fn fill(words: &mut [u16], word: u16)
+    ensures { λ r. ⌜ now (words .exit) ≡ replicate (length (now (words .entry))) word ⌝ }
 {
     let mut i = 0;
     while i < words.len() {
-        words[i] = 0;
+        words[i] = word;
         i += 1;
     }
 }
@@ -352,17 +351,24 @@ fn read_text(text: &[u8], words: &mut [u16]) -> Outcome
     read_lines(text, &mut first, &mut scratch, words)
 }
 
+fn refuse(buffer: &mut [u16], k: u16) -> Outcome
+    ensures { λ r. ⌜ answerOf r (now (buffer .exit)) ≡ unread (length (now (buffer .entry))) k ⌝ }
+{
+    fill(buffer, 0);
+    Outcome::Refused(k)
+}
+
 // Reads hand-in text into a buffer of 4867 words: the shares in member order, zeros for absent members and after the last share.
 pub fn read(text: &[u8], words: &mut [u16]) -> Outcome
-    ensures { λ r. ⌜ answerOf r (now (words .exit)) ≡ reader.read (now (text .entry)) (length (now (words .entry))) ⌝ }
+    ensures { λ r. ⌜ answerOf r (now (words .exit)) ≡ read (now (text .entry)) (length (now (words .entry))) ⌝ }
 {
-    clear(words);
     if words.len() != 4867 {
-        return Outcome::Refused(25);
+        return refuse(words, 25);
     }
     if 40000 < text.len() {
-        return Outcome::Refused(21);
+        return refuse(words, 21);
     }
+    fill(words, 0);
     match read_text(text, words) {
         Outcome::Accepted {
             t,
@@ -375,9 +381,6 @@ pub fn read(text: &[u8], words: &mut [u16]) -> Outcome
             quorum,
             present,
         },
-        Outcome::Refused(k) => {
-            clear(words);
-            Outcome::Refused(k)
-        }
+        Outcome::Refused(k) => refuse(words, k),
     }
 }

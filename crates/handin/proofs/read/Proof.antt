@@ -8,23 +8,29 @@ use borrow.Author.Needs.{needs}
 use Rattle.handin.proofs.read.Statement.{statement}
 use Rattle.handin.proofs.read.Tie as tie
 
-clear-requires : tie.Need-clear-requires
-clear-requires c κs = search needs
+refuse-requires : tie.Need-refuse-requires
+refuse-requires c κs = search needs
 
 same-length : tie.Need-same-length
 same-length c = search needs
 
 returns : tie.Need-returns
-returns c = read-25 _ _ _ (c .before .before .before .clear .ensures) (λ q. c .if1 .taken (c .before .before .before .clear .kept .0 ∙ q))
+returns c = c .before .before .refuse .ensures ∙ read-25 _ _ (c .before .before .before .before .if1 .taken)
+
+refuse-requires-2 : tie.Need-refuse-requires-2
+refuse-requires-2 c κs = search needs
 
 same-length-2 : tie.Need-same-length-2
 same-length-2 c = search needs
 
 returns-2 : tie.Need-returns-2
-returns-2 c = read-21 _ _ _ (c .before .before .before .before .clear .ensures) (sym (c .before .before .before .before .clear .kept .0) ∙ c .before .if1 .left) (c .if2 .taken)
+returns-2 c = c .before .before .refuse2 .ensures ∙ read-21 _ _ (c .before .before .before .before .before .if1 .left) (c .before .before .before .before .if2 .taken)
+
+fill-requires : tie.Need-fill-requires
+fill-requires c κs = search needs
 
 read-text-requires : tie.Need-read-text-requires
-read-text-requires c κs = (c .before .before .if1 .left, c .before .before .before .before .before .clear .ensures ∙ ap (λ (k : ℕ). replicate k 0) (sym (c .before .before .before .before .before .clear .kept .0)))
+read-text-requires c κs = (c .before .before .before .fill .kept .0 ∙ c .before .before .before .before .before .before .if1 .left, c .before .before .before .fill .ensures ∙ ap (λ (k : ℕ). replicate k 0) (sym (c .before .before .before .fill .kept .0)))
 
 enum-known-t : tie.Need-enum-known-t
 enum-known-t c = search needs
@@ -32,34 +38,36 @@ enum-known-t c = search needs
 enum-known-k : tie.Need-enum-known-k
 enum-known-k c = search needs
 
-clear-requires-2 : tie.Need-clear-requires-2
-clear-requires-2 c κs = search needs
+refuse-requires-3 : tie.Need-refuse-requires-3
+refuse-requires-3 c κs = search needs
 
 same-length-3 : tie.Need-same-length-3
 same-length-3 c = search needs
 
 returns-3 : tie.Need-returns-3
-returns-3 c = read-accepted _ _ _ (sym (c .before .before .before .before .before .before .before .before .before .before .before .clear .kept .0) ∙ c .before .before .before .before .before .before .before .before .if1 .left) (c .before .before .before .before .before .before .before .if2 .left) _ (c .before .before .before .before .before .before .before .before .before .before .before .clear .kept .0) _ _ _ _ (c .before .before .before .before .before .read-text .ensures) (c .before .t .given .1)
+returns-3 c = read-accepted _ _ (c .before .before .before .before .before .before .before .before .before .before .before .before .if1 .left) (c .before .before .before .before .before .before .before .before .before .before .before .if2 .left) _ (c .before .before .before .before .before .before .before .before .before .fill .kept .0) _ _ _ _ _ (c .before .before .before .before .before .read-text .ensures) (c .before .t .given .1)
 
 same-length-4 : tie.Need-same-length-4
 same-length-4 c = search needs
 
 returns-4 : tie.Need-returns-4
-returns-4 c = read-refused _ _ _ (sym (c .before .before .before .before .before .before .before .before .before .before .before .before .before .before .before .clear .kept .0) ∙ c .before .before .before .before .before .before .before .before .before .before .before .before .if1 .left) (c .before .before .before .before .before .before .before .before .before .before .before .if2 .left) _ (c .before .before .before .before .before .before .before .before .before .before .before .before .before .before .before .clear .kept .0) _ _ (c .before .before .before .before .before .before .before .before .before .read-text .ensures) (c .before .before .before .before .before .k .given .1) (c .before .before .clear2 .ensures)
+returns-4 c = c .before .before .refuse3 .ensures ∙ read-refused _ _ (c .before .before .before .before .before .before .before .before .before .before .before .before .before .before .before .before .if1 .left) (c .before .before .before .before .before .before .before .before .before .before .before .before .before .before .before .if2 .left) _ (c .before .before .before .before .before .before .before .before .before .before .before .before .before .fill .kept .0) _ _ (c .before .before .before .before .before .before .before .before .before .read-text .ensures) (c .before .before .before .before .before .k .given .1)
 
 pub read-spec : {M : Type 1} → statement M
 read-spec =
     tie.close
     (tie.spec
-    clear-requires
+    refuse-requires
     same-length
     returns
+    refuse-requires-2
     same-length-2
     returns-2
+    fill-requires
     read-text-requires
     enum-known-t
     enum-known-k
-    clear-requires-2
+    refuse-requires-3
     same-length-3
     returns-3
     same-length-4

@@ -1,4 +1,4 @@
--- `handin::clear` meets its contract. The loop's invariant: the words passed are 0.
+-- `handin::fill` meets its contract. The loop's invariant: the words passed are the word.
 -- Assumes nothing.
 use mathlib.Core.Path.{_≡_, refl}
 use mathlib.Core.List.{_++_}
@@ -6,14 +6,14 @@ use Prim.Native.Nat.{_≤_, _-_}
 use native.Mathlib.Omega.{arith}
 use lib.ListN.{length, drop, replicate, length-set}
 use Rattle.handin.proofs.Buffers.{fill-step, fill-all}
-use Rattle.handin.proofs.clear.Statement.{statement}
-use Rattle.handin.proofs.clear.Tie as tie
+use Rattle.handin.proofs.fill.Statement.{statement}
+use Rattle.handin.proofs.fill.Tie as tie
 
 abbrev Inv-loop : tie.InvT-loop
-Inv-loop words₀ i₀ words i = (i ≤ length words₀) × ((length words ≡ length words₀) × (words ≡ replicate i 0 ++ drop i words₀))
+Inv-loop words₀ word i₀ words i = (i ≤ length words₀) × ((length words ≡ length words₀) × (words ≡ replicate i word ++ drop i words₀))
 
 abbrev μ-loop : tie.MeasureT-loop
-μ-loop words₀ i₀ words i = length words₀ - i
+μ-loop words₀ word i₀ words i = length words₀ - i
 
 loop-holds : tie.Need-loop-holds Inv-loop μ-loop
 loop-holds c = (omega arith, (refl, refl))
@@ -31,16 +31,16 @@ loop-less : tie.Need-loop-less Inv-loop μ-loop
 loop-less c = omega arith
 
 loop-again : tie.Need-loop-again Inv-loop μ-loop
-loop-again c = (omega arith, (simp length-set (omega arith), fill-step _ _ _ (omega arith) (c .before .loop .inv .1 .1)))
+loop-again c = (omega arith, (simp length-set (omega arith), fill-step _ _ _ _ (omega arith) (c .before .loop .inv .1 .1)))
 
 same-length : tie.Need-same-length Inv-loop μ-loop
 same-length c = omega arith
 
 returns : tie.Need-returns Inv-loop μ-loop
-returns c = fill-all _ _ _ (c .before .loop .inv .0) (omega arith) (c .before .loop .inv .1 .1)
+returns c = fill-all _ _ _ _ (c .before .loop .inv .0) (omega arith) (c .before .loop .inv .1 .1)
 
-pub clear-spec : {M : Type 1} → statement M
-clear-spec =
+pub fill-spec : {M : Type 1} → statement M
+fill-spec =
     tie.close
     (tie.spec
     Inv-loop
