@@ -42,7 +42,7 @@ add-value : tie.Need-add-value Inv-loop μ-loop
 add-value c = omega (arith, c .before .before .shared-slice-known2 .given (c .before .before .before .before .loop .i))
 
 returns-2 : tie.Need-returns-2 Inv-loop μ-loop
-returns-2 c = digits-over _ _ _ (c .before .before .before .before .loop-test .taken) (c .before .before .before .before .before .loop .inv .1 .1) (sym (c .before .before .is-digit .ensures) ∙ not-false _ (c .before .if1 .left)) (c .if2 .taken)
+returns-2 c = digits-over (c .before .before .before .before .before .before .before .args .field .now) (c .before .before .before .before .before .loop .i) (c .before .before .before .before .before .loop .value) (c .before .before .before .before .loop-test .taken) (c .before .before .before .before .before .loop .inv .1 .1) (sym (c .before .before .is-digit .ensures) ∙ not-false _ (c .before .if1 .left)) (omega arith)
 
 add-i : tie.Need-add-i Inv-loop μ-loop
 add-i c = omega arith

@@ -8,10 +8,10 @@ use Rattle.handin.proofs.numeral.Statement.{statement}
 use Rattle.handin.proofs.numeral.Tie as tie
 
 returns : tie.Need-returns
-returns c = numeral-empty _ (c .if1 .taken)
+returns c = numeral-empty (c .before .before .args .field .now) (omega arith)
 
 returns-2 : tie.Need-returns-2
-returns-2 c = numeral-long _ (c .if2 .taken)
+returns-2 c = numeral-long (c .before .before .before .args .field .now) (omega arith)
 
 digits-requires : tie.Need-digits-requires
 digits-requires c κs = search needs
@@ -23,13 +23,13 @@ shared-slice-read-if4 : tie.Need-shared-slice-read-if4
 shared-slice-read-if4 c = search needs
 
 returns-4 : tie.Need-returns-4
-returns-4 c = numeral-zero _ (omega arith) (c .if4 .taken)
+returns-4 c = numeral-zero (c .before .before .before .before .before .before .args .field .now) (omega arith) (omega arith)
 
 digits-requires-2 : tie.Need-digits-requires-2
 digits-requires-2 c κs = search needs
 
 returns-5 : tie.Need-returns-5
-returns-5 c = c .digits2 .ensures ∙ numeral-digits _ (omega arith) (omega arith) (no-zero _ (c .before .if4 .left))
+returns-5 c = c .digits2 .ensures ∙ numeral-digits _ (omega arith) (omega arith) (no-zero (c .before .before .before .before .before .before .before .args .field .now) (omega arith))
 
 pub numeral-spec : {M : Type 1} → statement M
 numeral-spec =

@@ -35,7 +35,7 @@ div-if3 : tie.Need-div-if3
 div-if3 c = omega (arith, c .power .ensures, value-pos (getD (c .before .before .before .before .before .before .args .numbers .now) 0 0 - 1))
 
 returns-3 : tie.Need-returns-3
-returns-3 c = take-met _ _ _ _ _ _ (c .before .before .before .if1 .left) (c .before .before .if2 .left) _ (c .before .power .ensures) (c .if3 .taken)
+returns-3 c = take-met (c .before .before .before .before .before .before .before .args .t) _ (c .before .before .before .before .before .before .before .args .present) (c .before .before .before .before .before .before .before .args .numbers .now) _ _ (omega arith) (omega arith) (c .before .power .result) (c .before .power .ensures) (omega arith)
 
 mul-at : tie.Need-mul-at
 mul-at c = search needs
@@ -65,7 +65,7 @@ same-length : tie.Need-same-length
 same-length c = search needs
 
 returns-4 : tie.Need-returns-4
-returns-4 c = take-in _ _ _ _ _ _ (c .before .before .before .before .before .before .before .before .if1 .left) (c .before .before .before .before .before .before .before .if2 .left) _ (c .before .before .before .before .before .before .power .ensures) (c .before .before .before .before .before .if3 .left) (c .before .before .before .before .before .before .before .before .before .before .before .before .pre .1 .0 .0) (c .before .before .store .ensures)
+returns-4 c = take-in (c .before .before .before .before .before .before .before .before .before .before .before .before .args .t) _ (c .before .before .before .before .before .before .before .before .before .before .before .before .args .present) (c .before .before .before .before .before .before .before .before .before .before .before .before .args .numbers .now) _ _ (omega arith) (omega arith) (c .before .before .before .before .before .before .power .result) (c .before .before .before .before .before .before .power .ensures) (omega arith) (c .before .before .before .before .before .before .before .before .before .before .before .before .pre .1 .0 .0) (c .before .before .store .ensures)
 
 pub take-share-spec : {M : Type 1} → statement M
 take-share-spec =
