@@ -5,8 +5,9 @@ use mathlib.Core.Logic.{_⊎_, inl, inr}
 use mathlib.Core.Bool.{Bool, true, false, cond, _||_, false≢true}
 use Prim.Native.Nat.{ℕ, _≤_, _<_}
 use native.Mathlib.Omega.{arith}
-use borrow.Author.Tests.{ne-eqb, le-leb, lt-leb}
+use borrow.Author.Tests.{eq-eqb, eqb-true, ne-eqb, le-leb, lt-leb}
 use lib.Dec.{eqb}
+use Rattle.lists.proofs.Bools.{same-test}
 use Rattle.handin.specs.Lines.{isDigit}
 use Rattle.handin.specs.Answers.{kindOf, Marks}
 use Rattle.handin.specs.declared.Kind.{Kind}
@@ -78,3 +79,36 @@ no-mark b m h k = sym (ne-eqb b m (λ e. differ b m h k e))
     differ : (b m : ℕ) → Marks m → (Digit ≡ kindOf b) ⊎ (Other ≡ kindOf b) → b ≡ m → ⊥
     differ b m h (inl k) e = let z : false ≡ true = ap isMarkKind (k ∙ ap kindOf e) ∙ mark-kind m (h .one) in absurd (false≢true z)
     differ b m h (inr k) e = let z : false ≡ true = ap isMarkKind (k ∙ ap kindOf e) ∙ mark-kind m (h .one) in absurd (false≢true z)
+
+-- a tab is 9, a line end is 10
+byteOf : Kind → ℕ → ℕ
+byteOf Digit b = b
+byteOf Tab b = 9
+byteOf End b = 10
+byteOf Letter b = b
+byteOf Other b = b
+
+byte-cond : (p q r s : Bool) (b : ℕ) → (q ≡ true → 9 ≡ b) → (r ≡ true → 10 ≡ b) → byteOf (cond p Digit (cond q Tab (cond r End (cond s Letter Other)))) b ≡ b
+unfolding byteOf
+byte-cond true q r s b f g = refl
+byte-cond false true r s b f g = f refl
+byte-cond false false true s b f g = g refl
+byte-cond false false false true b f g = refl
+byte-cond false false false false b f g = refl
+
+byte-kind : (b : ℕ) {k : Kind} → k ≡ kindOf b → byteOf k b ≡ b
+unfolding kindOf
+byte-kind b e =
+    ap (λ (k : Kind). byteOf k b) e
+    ∙ byte-cond (isDigit b) (eqb b 9) (eqb b 10) (eqb b 68 || eqb b 80) b (λ h. sym (eqb-true b 9 h)) (λ h. sym (eqb-true b 10 h))
+
+eqb-sym : (a b : ℕ) → eqb a b ≡ eqb b a
+eqb-sym a b = same-test (eqb a b) (eqb b a) (λ h. eq-eqb b a (sym (eqb-true a b h))) (λ h. eq-eqb a b (sym (eqb-true b a h)))
+
+pub mark-tab : (b m : ℕ) → Tab ≡ kindOf b → eqb m 9 ≡ eqb b m
+unfolding byteOf
+mark-tab b m e = eqb-sym m 9 ∙ ap (λ (x : ℕ). eqb x m) (byte-kind b e)
+
+pub mark-end : (b m : ℕ) → End ≡ kindOf b → eqb m 10 ≡ eqb b m
+unfolding byteOf
+mark-end b m e = eqb-sym m 10 ∙ ap (λ (x : ℕ). eqb x m) (byte-kind b e)

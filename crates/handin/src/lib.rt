@@ -53,8 +53,8 @@ fn is_mark(b: u8, mark: u8) -> bool
     ensures { λ r. ⌜ r ≡ eqb b mark ⌝ }
 {
     match sort(b) {
-        Kind::Tab => b == mark,
-        Kind::End => b == mark,
+        Kind::Tab => mark == 9,
+        Kind::End => mark == 10,
         Kind::Letter => b == mark,
         Kind::Digit => false,
         Kind::Other => false,

@@ -2,7 +2,7 @@
 -- Assumes nothing.
 use mathlib.Core.Path.{sym, _∙_}
 use mathlib.Core.Logic.{inl, inr}
-use Rattle.handin.proofs.Bytes.{no-mark}
+use Rattle.handin.proofs.Bytes.{no-mark, mark-tab, mark-end}
 use borrow.Author.Needs.{needs}
 use Rattle.handin.proofs.is_mark.Statement.{statement}
 use Rattle.handin.proofs.is_mark.Tie as tie
@@ -26,10 +26,10 @@ enum-told-5 : tie.Need-enum-told-5
 enum-told-5 c = search needs
 
 returns : tie.Need-returns
-returns c = search needs
+returns c = mark-tab _ _ (sym (c .enum-told .given .1) ∙ c .before .before .sort .ensures)
 
 returns-2 : tie.Need-returns-2
-returns-2 c = search needs
+returns-2 c = mark-end _ _ (sym (c .enum-told2 .given .1) ∙ c .before .before .sort .ensures)
 
 returns-3 : tie.Need-returns-3
 returns-3 c = search needs
