@@ -9,4 +9,6 @@ pub mod Every
 pub mod Fill
 pub mod InPlace
 pub mod Stores
+pub mod Stores
 pub mod Tabulate
+pub mod Blocks
