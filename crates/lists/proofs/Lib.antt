@@ -9,6 +9,4 @@ pub mod Every
 pub mod Fill
 pub mod InPlace
 pub mod Stores
-pub mod Stores
 pub mod Tabulate
-pub mod Blocks
