@@ -10,6 +10,12 @@ ghost use Rattle.pruning.specs.Pruning.{survivors};
 ghost use Rattle.reconstruction.specs.Room.{Room};
 ghost use Rattle.reconstruction.specs.Votes.{tagHolds, accepts, voteRows};
 
+// Opened, with the survivors and those of them that agree; or refused with document 01's number, and with the survivors if that is 16.
+pub enum Outcome {
+    Open { survivors: u32, agreeing: u32 },
+    Refused { number: u16, survivors: u32 },
+}
+
 // The word at `at` is the tag of the d words from `own` on, under the key at `key`.
 fn tag_holds(shares: &[u16], d: usize, own: usize, key: usize, at: usize) -> bool
     requires { ⌜ (own + d ≤ length (now shares)) × (key + 1 < length (now shares)) × (at < length (now shares)) × (length (now shares) ≤ 4867) ⌝ }
