@@ -1,1 +1,70 @@
-// What the program `opening` prints for a text. Definitions only, so far.
+// What the program `opening` prints for a text: digits, lines, the two answers, and the whole.
+ghost use mathlib.Core.Path.{_≡_};
+ghost use mathlib.Core.List.{[], _∷_};
+ghost use Prim.Native.Nat.{_+_, _≤_};
+ghost use lib.ListN.{length};
+ghost use Rattle.report.specs.Report.{digits, field};
+ghost use Rattle.report.specs.Writing.{Written, lineOfTwo};
+
+// How many digits a number has.
+fn count_digits(n: u32) -> usize
+    ensures { λ r. ⌜ r ≡ length (digits 10 n) ⌝ }
+{
+    let mut count = 1;
+    let mut rest = n;
+    while 9 < rest {
+        rest = rest / 10;
+        count += 1;
+    }
+    count
+}
+
+// The digits of a number, from the last down to the first.
+fn put_digits(n: u32, output: &mut [u8], at: usize) -> usize
+    requires { ⌜ at + length (digits 10 n) ≤ length (now output) ⌝ }
+    ensures { λ r. ⌜ Written (now (output .entry)) at (digits 10 n) (now (output .exit)) r ⌝ }
+{
+    let end = at + count_digits(n);
+    let mut i = end;
+    let mut rest = n;
+    while 9 < rest {
+        i -= 1;
+        output[i] = 48 + (rest % 10) as u8;
+        rest = rest / 10;
+    }
+    output[at] = 48 + rest as u8;
+    end
+}
+
+// A tab and a number.
+fn put_field(n: u32, output: &mut [u8], at: usize) -> usize
+    requires { ⌜ at + length (field n) ≤ length (now output) ⌝ }
+    ensures { λ r. ⌜ Written (now (output .entry)) at (field n) (now (output .exit)) r ⌝ }
+{
+    output[at] = 9;
+    put_digits(n, output, at + 1)
+}
+
+fn put_bytes(bytes: &[u8], output: &mut [u8], at: usize) -> usize
+    requires { ⌜ at + length (now bytes) ≤ length (now output) ⌝ }
+    ensures { λ r. ⌜ Written (now (output .entry)) at (now (bytes .entry)) (now (output .exit)) r ⌝ }
+{
+    let mut i = 0;
+    while i < bytes.len() {
+        output[at + i] = bytes[i];
+        i += 1;
+    }
+    at + i
+}
+
+// A line: a word and two numbers.
+fn put_line(word: &[u8], a: u32, b: u32, output: &mut [u8], at: usize) -> usize
+    requires { ⌜ at + length (lineOfTwo (now word) a b) ≤ length (now output) ⌝ }
+    ensures { λ r. ⌜ Written (now (output .entry)) at (lineOfTwo (now (word .entry)) a b) (now (output .exit)) r ⌝ }
+{
+    let first = put_bytes(word, output, at);
+    let second = put_field(a, output, first);
+    let end = put_field(b, output, second);
+    output[end] = 10;
+    end + 1
+}
