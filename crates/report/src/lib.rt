@@ -1,10 +1,10 @@
 // What the program `opening` prints for a text: digits, lines, the two answers, and the whole.
 ghost use mathlib.Core.Path.{_≡_};
-ghost use mathlib.Core.List.{[], _∷_};
-ghost use Prim.Native.Nat.{_+_, _≤_};
+ghost use mathlib.Core.List.{[], _∷_, _++_};
+ghost use Prim.Native.Nat.{_+_, _*_, _≤_};
 ghost use lib.ListN.{length};
-ghost use Rattle.report.specs.Report.{digits, field};
-ghost use Rattle.report.specs.Writing.{Written, lineOfTwo};
+ghost use Rattle.report.specs.Report.{digits, field, line};
+ghost use Rattle.report.specs.Writing.{Written, lineOfTwo, wordLines};
 
 // How many digits a number has.
 fn count_digits(n: u32) -> usize
@@ -67,4 +67,34 @@ fn put_line(word: &[u8], a: u32, b: u32, output: &mut [u8], at: usize) -> usize
     let end = put_field(b, output, second);
     output[end] = 10;
     end + 1
+}
+
+// A line for each word of the secret.
+fn put_words(secret: &[u16], output: &mut [u8], at: usize) -> usize
+    requires { ⌜ (length (now secret) ≤ 64) × (at + 14 * length (now secret) ≤ length (now output)) ⌝ }
+    ensures { λ r. ⌜ Written (now (output .entry)) at (wordLines (now (secret .entry))) (now (output .exit)) r ⌝ }
+{
+    let mut end = at;
+    let mut k = 0;
+    while k < secret.len() {
+        end = put_line(b"WORD", (k + 1) as u32, secret[k] as u32, output, end);
+        k += 1;
+    }
+    end
+}
+
+// A secret that was opened.
+fn put_open(survivors: u32, agreeing: u32, secret: &[u16], output: &mut [u8]) -> usize
+    requires { ⌜ (length (now secret) ≤ 64) × (1024 ≤ length (now output)) ⌝ }
+    ensures { λ r. ⌜ Written (now (output .entry)) 0 (line "OPEN" (survivors ∷ agreeing ∷ []) ++ wordLines (now (secret .entry))) (now (output .exit)) r ⌝ }
+{
+    let end = put_line(b"OPEN", survivors, agreeing, output, 0);
+    put_words(secret, output, end)
+}
+
+fn put_refused(number: u16, survivors: u32, output: &mut [u8]) -> usize
+    requires { ⌜ 1024 ≤ length (now output) ⌝ }
+    ensures { λ r. ⌜ Written (now (output .entry)) 0 (line "REFUSED" (number ∷ survivors ∷ [])) (now (output .exit)) r ⌝ }
+{
+    put_line(b"REFUSED", number as u32, survivors, output, 0)
 }

@@ -43,7 +43,7 @@ same-length : tie.Need-same-length Inv-loop μ-loop
 same-length c = omega arith
 
 returns : tie.Need-returns Inv-loop μ-loop
-returns c = record { stored = store-all _ _ _ _ _ (c .loop-test .left) (c .before .loop .inv .1 .1); next = omega arith }
+returns c = record { stored = store-all _ _ _ _ _ (c .loop-test .left) (c .before .loop .inv .1 .1); next = omega arith; fits = omega arith }
 
 pub put-bytes-spec : {M : Type 1} → statement M
 put-bytes-spec =

@@ -53,7 +53,7 @@ same-length : tie.Need-same-length Inv-loop μ-loop
 same-length c = simp length-set (omega arith)
 
 returns : tie.Need-returns Inv-loop μ-loop
-returns c = record { stored = left-last _ _ _ _ _ _ (c .loop-test .left) (c .before .loop .inv); next = omega arith }
+returns c = record { stored = left-last _ _ _ _ _ _ (c .loop-test .left) (c .before .loop .inv); next = omega arith; fits = omega arith }
 
 pub put-digits-spec : {M : Type 1} → statement M
 put-digits-spec =

@@ -24,7 +24,7 @@ same-length c = c .before .before .put-digits .kept .1 .0 ∙ simp length-set
 
 returns : tie.Need-returns
 unfolding field
-returns c = written-then (written-one _ _ _) (c .before .before .put-digits .ensures)
+returns c = written-then (written-one _ _ _ (omega (arith, length-field (c .before .before .before .before .before .args .n)))) (c .before .before .put-digits .ensures)
 
 pub put-field-spec : {M : Type 1} → statement M
 put-field-spec =

@@ -26,7 +26,7 @@ same-length : tie.Need-same-length
 same-length c = simp length-set (c .before .before .put-field2 .kept .1 .0 ∙ c .before .before .before .before .before .before .put-field .kept .1 .0 ∙ c .before .before .before .before .before .before .before .before .before .before .put-bytes .kept .1 .0)
 
 returns : tie.Need-returns
-returns c = written-line _ _ (c .before .before .before .before .before .before .before .before .before .before .put-bytes .ensures) (c .before .before .before .before .before .before .put-field .ensures) (c .before .before .put-field2 .ensures)
+returns c = written-line _ _ (c .before .before .before .before .before .before .before .before .before .before .put-bytes .ensures) (c .before .before .before .before .before .before .put-field .ensures) (c .before .before .put-field2 .ensures) (slice-write-output c)
 
 pub put-line-spec : {M : Type 1} → statement M
 put-line-spec =
