@@ -4,16 +4,55 @@ ghost use Prim.Native.Nat.{_+_, _<_, _≤_};
 ghost use lib.Dec.{eqb};
 ghost use lib.ListN.{length, getD, take, drop};
 ghost use Rattle.mac.specs.Tag.{tag};
-ghost use mathlib.Core.Bool.{true, cond};
+ghost use mathlib.Core.Bool.{true, cond, _&&_};
 ghost use Rattle.members.specs.Members.{size, has, setOf, adding};
 ghost use Rattle.pruning.specs.Pruning.{survivors};
 ghost use Rattle.reconstruction.specs.Room.{Room};
-ghost use Rattle.reconstruction.specs.Votes.{tagHolds, accepts, voteRows};
+ghost use Rattle.reconstruction.specs.Votes.{fieldShare, usable, tagHolds, accepts, voteRows};
 
 // Opened, with the survivors and those of them that agree; or refused with document 01's number, and with the survivors if that is 16.
 pub enum Outcome {
     Open { survivors: u32, agreeing: u32 },
     Refused { number: u16, survivors: u32 },
+}
+
+// The set, and member i if it is present and every word of its share is a field word.
+fn usable_member(
+    t: usize,
+    d: usize,
+    n: usize,
+    width: usize,
+    present: u32,
+    shares: &[u16],
+    i: usize,
+    set: u32,
+) -> u32
+    requires { ⌜ Room t d n width (now shares) ⌝ }
+    requires { ⌜ i < n ⌝ }
+    ensures { λ r. ⌜ r ≡ cond (has present i && fieldShare t d (now (shares .entry)) i) (adding set i) set ⌝ }
+{
+    if !members::has(present, i) {
+        return set;
+    }
+    let at = i * width;
+    if !field::are_field_words(&shares[at..at + width]) {
+        return set;
+    }
+    members::with(set, i)
+}
+
+// The usable members.
+fn usable_members(t: usize, d: usize, n: usize, width: usize, present: u32, shares: &[u16]) -> u32
+    requires { ⌜ Room t d n width (now shares) ⌝ }
+    ensures { λ r. ⌜ r ≡ usable t d present (now (shares .entry)) ⌝ }
+{
+    let mut set: u32 = 0;
+    let mut i = 0;
+    while i < n {
+        set = usable_member(t, d, n, width, present, shares, i, set);
+        i = i + 1;
+    }
+    set
 }
 
 // The word at `at` is the tag of the d words from `own` on, under the key at `key`.
