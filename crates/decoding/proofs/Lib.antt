@@ -1,5 +1,8 @@
 -- What is proved of this crate.
+pub mod Coefficients
 pub mod Examples
+pub mod Invariant
+pub mod Locator
 pub mod Points
 pub mod Search
 pub mod Unique

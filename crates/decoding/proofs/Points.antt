@@ -1,14 +1,16 @@
 -- The points of some of the members: distinct, where all points are.
 -- Assumes nothing.
 use mathlib.Core.Path.{_≡_, sym, ap, _∙_, subst}
+use mathlib.Core.Bool.{Bool, true}
 use mathlib.Core.List.{List, map, Sublistᴰ, Sublistᴰ·slnil, Sublistᴰ·cons, Sublistᴰ·cons-cons}
-use Prim.Native.Nat.{ℕ}
-use lib.ListN.{length, getD}
-use Rattle.lists.specs.Tabulate.{tab}
-use Rattle.lists.proofs.Every.{Every}
+use Prim.Native.Nat.{ℕ, _<_}
+use lib.ListN.{length, getD, length-map}
+use Rattle.lists.specs.Tabulate.{tab, count}
+use Rattle.lists.proofs.Every.{Every, every-both}
 use Rattle.lists.proofs.Tabulate.{map-tab, tab-getD}
-use Rattle.lists.proofs.Choose.{every-sub, sub-map}
+use Rattle.lists.proofs.Choose.{every-sub, every-mapped, sub-map}
 use Rattle.field.proofs.Congruence.{_≈_}
+use Rattle.members.proofs.Listed.{passing, passing-sub, passing-every, passing-below, length-passing}
 use Rattle.polynomial.proofs.Roots.{Distinct, distinct-more}
 
 -- the points of the members ms
@@ -27,3 +29,14 @@ all-points xs n e = map-tab (λ i. getD xs i 0) n (λ i. i) ∙ ap (λ (m : ℕ)
 pub distinct-points : (xs : List ℕ) (n : ℕ) {ms : List ℕ} → length xs ≡ n → Distinct xs → Sublistᴰ ms (tab n (λ i. i)) → Distinct (pointsOf xs ms)
 distinct-points xs n {ms} e d s =
     distinct-sub (sub-map (λ i. getD xs i 0) s) (subst Distinct (sym (all-points xs n e)) d)
+
+-- the points of the members that pass a test
+module _ (xs : List ℕ) (n : ℕ) (long : length xs ≡ n) (distinct : Distinct xs) (p : ℕ → Bool) where
+  pub passing-points : Distinct (pointsOf xs (passing n p))
+  passing-points = distinct-points xs n long distinct (passing-sub n p)
+
+  pub count-points : length (pointsOf xs (passing n p)) ≡ count n p
+  count-points = length-map (passing n p) (λ i. getD xs i 0) ∙ length-passing n p
+
+  pub at-points : {P : ℕ → Type 0} → ((i : ℕ) → i < n → p i ≡ true → P (getD xs i 0)) → Every P (pointsOf xs (passing n p))
+  at-points h = every-mapped (λ i. getD xs i 0) (every-both h (passing-below n p) (passing-every n p))
