@@ -1,2 +1,2 @@
-pub mod Examples
 pub mod Dealing
+pub mod Examples

@@ -1,3 +1,3 @@
 pub mod Algorithm
-pub mod Examples
 pub mod Decoding
+pub mod Examples

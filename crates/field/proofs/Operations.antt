@@ -5,7 +5,7 @@ use Prim.Native.Nat.{ℕ, _+_, _-_, _*_, _%_, _<_, suc-le-suc, zero-le}
 use native.Mathlib.Nat.{mod-lt}
 use native.Mathlib.Omega.{arith}
 use Rattle.field.specs.Field.{prime, sum, difference, product}
-use Rattle.field.proofs.Congruence.{_≈_, reduced, same-trans}
+use Rattle.field.proofs.Congruence.{_≈_, same-refl, same-sym, same-trans, eq-same, reduced, _⊕_}
 
 pub mod-word : (n : ℕ) → n % prime < prime
 mod-word n = omega arith
@@ -33,3 +33,9 @@ difference-word a b = mod-word (a + (prime - b % prime))
 pub product-word : (a b : ℕ) → product a b < prime
 unfolding product
 product-word a b = mod-word (a * b)
+
+-- reducing once is enough
+pub once : (c a b : ℕ) → (c + a * b) % prime ≡ sum c (product a b)
+once c a b =
+    eq-same (mod-word (c + a * b)) (sum-word c (product a b))
+    (same-trans (reduced (c + a * b)) (same-sym (same-trans (sum-same c (product a b)) (same-refl ⊕ product-same a b))))

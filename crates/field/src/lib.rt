@@ -55,6 +55,13 @@ pub fn multiply(a: u16, b: u16) -> u16
     ((a as u32 * b as u32) % 65521) as u16
 }
 
+// c + a · b, with one reduction
+pub fn add_product(c: u16, a: u16, b: u16) -> u16
+    ensures { λ r. ⌜ r ≡ sum c (product a b) ⌝ }
+{
+    ((c as u32 + a as u32 * b as u32) % 65521) as u16
+}
+
 // a to the power of the lowest binary digit of k
 fn digit_power(a: u16, k: u16) -> u16
     ensures { λ r. ⌜ r ≡ a ^ (k % 2) ⌝ }

@@ -1,7 +1,10 @@
 -- Laws of lists, tests and counts over the first n numbers.
+pub mod Blocks
 pub mod Bools
-pub mod Every
-pub mod Tabulate
-pub mod Count
+pub mod Checks
 pub mod Choose
 pub mod Common
+pub mod Count
+pub mod Every
+pub mod InPlace
+pub mod Tabulate

@@ -6,8 +6,10 @@ use mathlib.Core.Bool.{Bool, true, false, _&&_, true≢false}
 use mathlib.Core.List.{List, [], _∷_, _++_, map}
 use Prim.Native.Nat.{ℕ, zero, suc, _+_, _*_, _≤_, _<_, zero-le, suc-le-suc}
 use native.Mathlib.Nat.{not-suc-le-zero, le-of-suc-le-suc}
+use native.Mathlib.Numerals.{add-one}
 use native.Mathlib.Omega.{arith}
-use lib.ListN.{length, getD, take, drop, length-append}
+use lib.ListN.{length, getD, take, drop, length-append, drop-of-length-le}
+use lib.Seq.{drop-cons}
 use Rattle.lists.specs.Tabulate.{tab, all, each, concat}
 use Rattle.lists.proofs.Bools.{and-intro, and-left, and-right, test}
 
@@ -73,3 +75,12 @@ pub each-all : {A : Type 0} (p : A → Bool) (l : List A) (d : A) → each p l �
 unfolding each all
 each-all p [] d = refl
 each-all p (x ∷ l) d = ap (λ (b : Bool). p x && b) (each-all p l d)
+
+-- a test of the elements from place i on: that of place i and those after it
+pub each-drop : {A : Type 0} (p : A → Bool) (l : List A) (i : ℕ) (d : A) → i < length l → each p (drop i l) ≡ p (getD l i d) && each p (drop (i + 1) l)
+unfolding each
+each-drop p l i d h = ap (each p) (drop-cons l i d h) ∙ ap (λ (k : ℕ). p (getD l i d) && each p (drop k l)) (sym (add-one i))
+
+pub each-end : {A : Type 0} (p : A → Bool) (l : List A) (i : ℕ) → length l ≤ i → each p (drop i l) ≡ true
+unfolding each
+each-end p l i h = ap (each p) (drop-of-length-le l h)

@@ -1,5 +1,5 @@
 -- What is proved of this crate.
 pub mod Examples
+pub mod Listed
 pub mod Masks
 pub mod Words
-pub mod Listed

@@ -3,17 +3,18 @@
 use mathlib.Core.Path.{_≡_, refl, sym, ap, _∙_, subst}
 use mathlib.Core.Logic.{_⊎_, inl, inr}
 use mathlib.Core.Bool.{Bool, true, false, _&&_, _||_, not, cond, true≢false, false≢true}
-use Prim.Native.Nat.{ℕ, suc, _/_, _^_, _≤_, _<_}
+use Prim.Native.Nat.{ℕ, suc, _+_, _*_, _/_, _^_, _≤_, _<_}
 use native.Mathlib.Nat.{le-refl, le-trans, le-suc, le-of-eq, le-of-suc-le-suc, eq-or-lt-of-le, lt-of-lt-of-le, lt-irrefl}
+use native.Mathlib.Omega.{arith}
 use lib.Dec.{eqb, ltb, leb, leb·suc-suc}
 use lib.Bits.{bitAnd, bitOr, bitXor, and-mask, or-lt, xor-lt}
 use lib.Count.{ones}
 use lib.Pow.{pow-mono, pow-lt}
-use borrow.Author.Tests.{eqb-true, eqb-false, ne-eqb, lt-ltb, ltb-true, ltb-false}
+use borrow.Author.Tests.{leb-true, eqb-true, eqb-false, ne-eqb, lt-ltb, ltb-true, ltb-false}
 use Rattle.lists.specs.Tabulate.{count}
-use Rattle.lists.proofs.Bools.{test, or-no, or-yes, and-no, and-not}
+use Rattle.lists.proofs.Bools.{and-right, test, or-no, or-yes, and-no, and-not}
 use Rattle.lists.proofs.Count.{count-more}
-use Rattle.members.specs.Members.{has, setOf, isSet, adding, striking, firstOf, common}
+use Rattle.members.specs.Members.{isThreshold, size, has, setOf, isSet, adding, striking, firstOf, common}
 use Rattle.members.proofs.Masks.{has-setOf, setOf-lt, setOf-has, setOf-ext, same-members, has-above, has-or, has-xor, has-power, has-shift, ones-and, suc-everyone}
 
 -- ---- what the code computes
@@ -132,3 +133,14 @@ pub common-count : (n a b : ℕ) → n ≤ 32 → b < 2 ^ n → common a b ≡ c
 unfolding common
 common-count n a b l h =
     count-more n 32 (λ j. has a j && has b j) l (λ i k m. and-no (has a i) (has b i) (has-above n b i h k))
+
+-- ---- a station's members
+
+-- at most 31
+pub size-le : (t : ℕ) → isThreshold t ≡ true → size t ≤ 31
+unfolding size
+size-le t h = omega (arith, leb-true t 15 (and-right (leb 1 t) (leb t 15) h))
+
+pub size-of : (t : ℕ) → 2 * t + 1 ≡ size t
+unfolding size
+size-of t = refl

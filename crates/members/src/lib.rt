@@ -1,7 +1,14 @@
 // Sets of members as masks of 32 bits: member i, counted from 0, has bit i.
 ghost use mathlib.Core.Path.{_≡_};
 ghost use Prim.Native.Nat.{_<_, _^_};
-ghost use Rattle.members.specs.Members.{has, card, adding, striking, firstOf, common};
+ghost use Rattle.members.specs.Members.{isThreshold, has, card, adding, striking, firstOf, common};
+
+// A station's threshold is 1 to 15.
+pub fn threshold(t: usize) -> bool
+    ensures { λ r. ⌜ r ≡ isThreshold t ⌝ }
+{
+    1 <= t && t <= 15
+}
 
 // The set of one member.
 fn only(i: usize) -> u32

@@ -20,7 +20,7 @@ pub data Meets (f : List ℕ) : List ℕ → List ℕ → Type 0 where
   meets-none : Meets f [] []
   meets-more : {x y : ℕ} {xs ys : List ℕ} → eval f x ≈ y → Meets f xs ys → Meets f (x ∷ xs) (y ∷ ys)
 
-length-slopes : (x y : ℕ) (xs ys : List ℕ) → length ys ≡ length xs → length (slopes x y xs ys) ≡ length xs
+pub length-slopes : (x y : ℕ) (xs ys : List ℕ) → length ys ≡ length xs → length (slopes x y xs ys) ≡ length xs
 unfolding slopes
 length-slopes x y [] ys h = refl
 length-slopes x y (a ∷ xs) [] h = absurd (suc-ne-zero _ (sym h))

@@ -2,4 +2,5 @@
 pub mod Evaluation
 pub mod Examples
 pub mod Interpolation
+pub mod Newton
 pub mod Roots

@@ -1,7 +1,10 @@
 -- Polynomials (document 01: curves) over the field, as lists of coefficients, power 0 first.
 -- Assumes nothing.
 use Prim.Native.Nat.{ℕ, _+_, _-_, _*_, _%_}
+use mathlib.Core.Bool.{cond}
 use mathlib.Core.List.{List, [], _∷_}
+use lib.Dec.{eqb}
+use lib.ListN.{length}
 use Rattle.field.specs.Field.{prime, difference, product, inverse}
 
 -- the sum of c_k times x to the power k, as a plain number
@@ -29,3 +32,7 @@ unfoldable pub interpolate : List ℕ → List ℕ → List ℕ
 interpolate [] ys = []
 interpolate (x ∷ xs) [] = []
 interpolate (x ∷ xs) (y ∷ ys) = linear x y (interpolate xs (slopes x y xs ys))
+
+-- The same in place of the values, which stay if they are not as many as the points.
+unfoldable pub interpolated : List ℕ → List ℕ → List ℕ
+interpolated xs ys = cond (eqb (length xs) (length ys)) (interpolate xs ys) ys

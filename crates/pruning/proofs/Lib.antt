@@ -1,3 +1,5 @@
 -- What is proved of this crate.
+pub mod Answers
 pub mod Examples
 pub mod Largest
+pub mod Steps

@@ -1,0 +1,85 @@
+-- Lists one after the other: lengths, where a word stands when all are equally long, and what holds of every element.
+-- Assumes nothing.
+use mathlib.Core.Path.{_≡_, refl, sym, ap, ap₂, _∙_}
+use mathlib.Core.Bool.{Bool, true}
+use mathlib.Core.List.{List, [], _∷_, _++_, append-assoc, append-nil}
+use Prim.Native.Nat.{ℕ, zero, suc, _+_, _*_, _<_, zero-le, suc-le-suc}
+use native.Mathlib.Nat.{not-suc-le-zero, le-of-suc-le-suc, zero-mul, suc-mul, add-comm, add-assoc}
+use native.Mathlib.Omega.{arith}
+use lib.ListN.{length, getD, length-append, List·getD-append}
+use lib.Seq.{getD-append-add}
+use Rattle.lists.specs.Tabulate.{tab, each, concat}
+use Rattle.lists.proofs.Bools.{and-intro, and-left, and-right}
+use Rattle.lists.proofs.Every.{Every, none, more}
+
+-- the element n places after a list of length w is in the list that follows
+pub getD-after : {A : Type 0} (xs ys : List A) (w n : ℕ) (d : A) → length xs ≡ w → getD (xs ++ ys) (w + n) d ≡ getD ys n d
+getD-after xs ys w n d e = ap (λ (k : ℕ). getD (xs ++ ys) (k + n) d) (sym e) ∙ getD-append-add xs ys n d
+
+module _ {A : Type 0} where
+  -- one more at the end
+  pub tab-more : (n : ℕ) (f : ℕ → A) → tab (suc n) f ≡ tab n f ++ (f n ∷ [])
+  unfolding tab
+  tab-more zero f = refl
+  tab-more (suc n) f = ap (λ (l : List A). f 0 ∷ l) (tab-more n (λ i. f (suc i)))
+
+  pub concat-more : (n : ℕ) (f : ℕ → List A) → concat (tab (suc n) f) ≡ concat (tab n f) ++ f n
+  unfolding tab concat
+  concat-more zero f = append-nil (f 0)
+  concat-more (suc n) f =
+      ap (λ (l : List A). f 0 ++ l) (concat-more n (λ i. f (suc i)))
+      ∙ sym (append-assoc (f 0) (concat (tab n (λ i. f (suc i)))) (f (suc n)))
+
+  -- n lists of w elements
+  pub length-concat : (n w : ℕ) (f : ℕ → List A) → ((i : ℕ) → i < n → length (f i) ≡ w) → length (concat (tab n f)) ≡ n * w
+  unfolding tab concat
+  length-concat zero w f h = sym (zero-mul w)
+  length-concat (suc n) w f h =
+      length-append (f 0) (concat (tab n (λ i. f (suc i))))
+      ∙ ap₂ _+_ (h 0 (suc-le-suc zero-le)) (length-concat n w (λ i. f (suc i)) (λ i k. h (suc i) (suc-le-suc k)))
+      ∙ add-comm w (n * w)
+      ∙ sym (suc-mul n w)
+
+  -- element k of list i
+  pub getD-concat : (n w : ℕ) (f : ℕ → List A) → ((i : ℕ) → i < n → length (f i) ≡ w)
+      → (i k : ℕ) (d : A) → i < n → k < w → getD (concat (tab n f)) (i * w + k) d ≡ getD (f i) k d
+  unfolding tab concat
+  getD-concat zero w f h i k d p q = absurd (not-suc-le-zero p)
+  getD-concat (suc n) w f h zero k d p q =
+      ap (λ (m : ℕ). getD (f 0 ++ concat (tab n (λ i. f (suc i)))) m d) (omega arith)
+      ∙ List·getD-append (f 0) (concat (tab n (λ i. f (suc i)))) d k (omega (arith, h 0 (suc-le-suc zero-le)))
+  getD-concat (suc n) w f h (suc i) k d p q =
+      ap (λ (m : ℕ). getD (f 0 ++ concat (tab n (λ i. f (suc i)))) m d) (ap (λ (m : ℕ). m + k) (suc-mul i w ∙ add-comm (i * w) w) ∙ add-assoc w (i * w) k)
+      ∙ getD-after (f 0) (concat (tab n (λ i. f (suc i)))) w (i * w + k) d (h 0 (suc-le-suc zero-le))
+      ∙ getD-concat n w (λ i. f (suc i)) (λ i k. h (suc i) (suc-le-suc k)) i k d (le-of-suc-le-suc p) q
+
+module _ {A : Type 0} {P : A → Type 0} where
+  pub every-append : {xs ys : List A} → Every P xs → Every P ys → Every P (xs ++ ys)
+  every-append none g = g
+  every-append (more p e) g = more p (every-append e g)
+
+  pub every-tab : (n : ℕ) (f : ℕ → A) → ((i : ℕ) → i < n → P (f i)) → Every P (tab n f)
+  unfolding tab
+  every-tab zero f h = none
+  every-tab (suc n) f h = more (h 0 (suc-le-suc zero-le)) (every-tab n (λ i. f (suc i)) (λ i k. h (suc i) (suc-le-suc k)))
+
+  pub every-concat : (n : ℕ) (f : ℕ → List A) → ((i : ℕ) → i < n → Every P (f i)) → Every P (concat (tab n f))
+  unfolding tab concat
+  every-concat zero f h = none
+  every-concat (suc n) f h = every-append (h 0 (suc-le-suc zero-le)) (every-concat n (λ i. f (suc i)) (λ i k. h (suc i) (suc-le-suc k)))
+
+  -- what holds of every element and of the default holds at every place
+  pub every-getD : {xs : List A} → Every P xs → (d : A) → P d → (i : ℕ) → P (getD xs i d)
+  every-getD none d q i = q
+  every-getD (more p e) d q zero = p
+  every-getD (more p e) d q (suc i) = every-getD e d q i
+
+pub each-every : {A : Type 0} (p : A → Bool) (xs : List A) → each p xs ≡ true → Every (λ a. p a ≡ true) xs
+unfolding each
+each-every p [] h = none
+each-every p (x ∷ xs) h = more (and-left (p x) (each p xs) h) (each-every p xs (and-right (p x) (each p xs) h))
+
+pub every-each : {A : Type 0} (p : A → Bool) {xs : List A} → Every (λ a. p a ≡ true) xs → each p xs ≡ true
+unfolding each
+every-each p none = refl
+every-each p (more h e) = and-intro h (every-each p e)
