@@ -25,13 +25,13 @@ use Rattle.lists.proofs.Choose.{every-sub, take-sub}
 use Rattle.field.specs.Field.{prime}
 use Rattle.field.proofs.Congruence.{_≈_, eq-same, same-sym, same-trans, same-eq, mult, times, _⊕_, lc}
 use Rattle.field.proofs.Fermat.{cancel}
-use Rattle.polynomial.specs.Polynomial.{eval, value, interpolate}
+use Rattle.polynomial.specs.Polynomial.{eval, value}
 use Rattle.polynomial.proofs.Evaluation.{value-same, value-word}
 use Rattle.polynomial.proofs.Roots.{Distinct}
 use Rattle.polynomial.proofs.Interpolation.{interpolate-words}
 use Rattle.members.specs.Members.{size, has, card}
 use Rattle.members.proofs.Listed.{passing, passing-sub, passing-every, passing-below, length-passing}
-use Rattle.decoding.specs.Algorithm.{State, passed, sound}
+use Rattle.decoding.specs.Algorithm.{State, passed, sound, chosen, candidate}
 use Rattle.decoding.specs.Decoding.{need, agreeing, Fits, find}
 use Rattle.decoding.proofs.Points.{pointsOf, passing-points, count-points, at-points}
 use Rattle.decoding.proofs.Unique.{need-twice, need-least, agrees, agrees-member, agrees-meets, card-agreeing, agreeing-same}
@@ -146,12 +146,6 @@ module _ (xs : List ℕ) (distinct : Distinct xs) (t : ℕ) (long : length xs �
 
 -- ---- what the decoder answers
 
--- the polynomial through the first t + 1 members at which e is not 0
-unfoldable pub candidate : List ℕ → ℕ → (ℕ → ℕ) → ℕ → List ℕ → List ℕ
-candidate xs t y set e =
-    let ms : List ℕ = take (suc t) (passing (size t) (sound xs set e)) in
-    interpolate (pointsOf xs ms) (map y ms)
-
 small : {len : ℕ} (t : ℕ) → size t ≤ len → t < len
 unfolding size
 small t h = omega arith
@@ -166,7 +160,7 @@ module _ (xs : List ℕ) (distinct : Distinct xs) (t : ℕ) (long : length xs �
   -- enough: the candidate is what is found, if enough members agree with it
   pub by-candidate : (g : List ℕ) → g ≡ candidate xs t y set (passed xs t y set len (size t) .e1) → suc t ≤ count (size t) (sound xs set (passed xs t y set len (size t) .e1))
       → find xs t 1 (alone y) set ≡ cond (leb (need t (card (size t) set)) (card (size t) (agreeing xs t 1 (alone y) set (λ k. g)))) (some (g ∷ [])) none
-  unfolding candidate tab
+  unfolding candidate chosen passing tab
   by-candidate g e h =
       let s : State = passed xs t y set len (size t) in
       let ps : List ℕ = passing (size t) (sound xs set (s .e1)) in

@@ -1,14 +1,16 @@
 -- How `decode` works, for the contracts of its private functions; no public contract cites this. Two pairs of polynomials (N, E) are kept so that
 -- N(x) = y · E(x) at each member passed so far. A member at which a pair is off raises one pair by a factor X − x and frees the other.
 -- Assumes nothing.
-use Prim.Native.Nat.{ℕ, zero, suc, _+_}
+use mathlib.Core.Path.{_≡_}
+use Prim.Native.Nat.{ℕ, zero, suc, _+_, _≤_, _<_}
 use mathlib.Core.Bool.{Bool, cond, _&&_, _||_, not}
-use mathlib.Core.List.{List, [], _∷_}
+use mathlib.Core.List.{List, [], _∷_, map}
 use lib.Dec.{leb, eqb}
-use lib.ListN.{getD, replicate}
+use lib.ListN.{getD, take, replicate}
+use Rattle.lists.specs.Tabulate.{tab, count, keep}
 use Rattle.field.specs.Field.{sum, difference, product}
-use Rattle.polynomial.specs.Polynomial.{value}
-use Rattle.members.specs.Members.{has}
+use Rattle.polynomial.specs.Polynomial.{value, interpolate}
+use Rattle.members.specs.Members.{size, has}
 
 -- c + (X − x) · f without its last coefficient, which is 0 wherever this is used
 unfoldable pub raised : ℕ → ℕ → List ℕ → List ℕ
@@ -80,3 +82,25 @@ passed xs t y set len (suc k) =
 -- a member of the set at whose point e is not 0: its value is right if any polynomial fits
 unfoldable pub sound : List ℕ → ℕ → List ℕ → ℕ → Bool
 sound xs set e i = has set i && not (eqb (value e (getD xs i 0)) 0)
+
+-- the first t + 1 of these
+unfoldable pub chosen : List ℕ → ℕ → ℕ → List ℕ → List ℕ
+chosen xs t set e = take (suc t) (keep (sound xs set e) (tab (size t) (λ i. i)))
+
+-- the polynomial through them
+unfoldable pub candidate : List ℕ → ℕ → (ℕ → ℕ) → ℕ → List ℕ → List ℕ
+candidate xs t y set e = interpolate (map (λ i. getD xs i 0) (chosen xs t set e)) (map y (chosen xs t set e))
+
+-- m of them are at hand: all t + 1 with their points and values, or as many as there are
+pub record Gathered (xs : List ℕ) (t : ℕ) (y : ℕ → ℕ) (set : ℕ) (e points values : List ℕ) (m : ℕ) : Type 0 where
+  pub enough : t < m → suc t ≤ count (size t) (sound xs set e)
+  pub points-are : t < m → take (suc t) points ≡ map (λ i. getD xs i 0) (chosen xs t set e)
+  pub values-are : t < m → values ≡ map y (chosen xs t set e)
+  pub few : m ≤ t → count (size t) (sound xs set e) < suc t
+
+-- what raises the pair (np, ep) at x and frees the pair (nq, eq)
+pub record Advanced (x dp dq : ℕ) (np ep nq eq np′ ep′ nq′ eq′ : List ℕ) : Type 0 where
+  pub raised-n : np′ ≡ raised x 0 np
+  pub raised-e : ep′ ≡ raised x 0 ep
+  pub freed-n : nq′ ≡ mixed dp nq (difference 0 dq) np
+  pub freed-e : eq′ ≡ mixed dp eq (difference 0 dq) ep
