@@ -18,7 +18,7 @@ pub record Turn (t : ℕ) (values : List ℕ) (set : ℕ) (s : State) (i : ℕ) 
   pub inside : i ≤ length values
   pub so-far : s ≡ passed (ownPoints t) t (λ k. getD values k 0) set 31 i
 
-size-31 : (t : ℕ) → t ≤ 15 → size t ≤ 31
+pub size-31 : (t : ℕ) → t ≤ 15 → size t ≤ 31
 unfolding size
 size-31 t h = omega arith
 

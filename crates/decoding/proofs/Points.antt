@@ -8,9 +8,10 @@ use native.Mathlib.Nat.{suc-ne-zero, suc-inj}
 use native.Mathlib.Omega.{arith}
 use lib.ListN.{length, getD, length-map}
 use Rattle.lists.specs.Tabulate.{tab, count}
+use Rattle.lists.proofs.Blocks.{every-tab}
 use Rattle.lists.proofs.Every.{Every, every-both}
 use Rattle.lists.proofs.Tabulate.{length-tab, getD-tab, map-tab, tab-getD}
-use Rattle.lists.proofs.Choose.{every-tab, every-sub, every-mapped, sub-map}
+use Rattle.lists.proofs.Choose.{every-sub, every-mapped, sub-map}
 use Rattle.field.proofs.Congruence.{_≈_}
 use Rattle.members.specs.Members.{size, ownPoints}
 use Rattle.members.proofs.Listed.{passing, passing-sub, passing-every, passing-below, length-passing}
