@@ -1,2 +1,4 @@
+pub mod Algorithm
+pub mod Answer
 pub mod Decoding
 pub mod Examples
