@@ -2,9 +2,9 @@
 pub mod Answers
 pub mod Coefficients
 pub mod Examples
-pub mod Own
 pub mod Invariant
 pub mod Locator
+pub mod Own
 pub mod Passes
 pub mod Points
 pub mod Refusals

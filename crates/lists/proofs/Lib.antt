@@ -6,8 +6,8 @@ pub mod Choose
 pub mod Common
 pub mod Count
 pub mod Every
-pub mod Tables
 pub mod InPlace
 pub mod StoredBlocks
 pub mod Stores
+pub mod Tables
 pub mod Tabulate
