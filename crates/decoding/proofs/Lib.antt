@@ -4,7 +4,6 @@ pub mod Coefficients
 pub mod Examples
 pub mod Invariant
 pub mod Locator
-pub mod Own
 pub mod Passes
 pub mod Points
 pub mod Refusals
