@@ -8,6 +8,7 @@ ghost use mathlib.Core.Bool.{cond, _&&_, _||_, not};
 ghost use Prim.Native.Nat.{ℕ, suc, _+_, _≤_, _<_, _^_};
 ghost use lib.Dec.{eqb, leb};
 ghost use lib.ListN.{length, getD, replicate};
+ghost use Rattle.lists.specs.Checks.{refusal};
 ghost use Rattle.lists.specs.Tabulate.{all};
 ghost use Rattle.field.specs.Field.{isFieldWord};
 ghost use Rattle.members.specs.Members.{isThreshold, size, ownPoints, has, card};
@@ -31,7 +32,7 @@ struct Degrees {
 
 // A refusal fills the buffer with 65535.
 fn refuse(buffer: &mut [u16], number: u16) -> Outcome
-    ensures { λ r. ⌜ answerOf r (now (buffer .exit)) ≡ undecoded (length (now (buffer .entry))) number ⌝ }
+    ensures { λ r. ⌜ answerOf r (now (buffer .exit)) ≡ undecoded (length (now (buffer .entry))) (refusal number) ⌝ }
 {
     lists::fill(buffer, 65535);
     Outcome::Refused(number)
