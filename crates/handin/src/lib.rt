@@ -7,6 +7,7 @@ ghost use Prim.Native.Nat.{_+_, _^_, _≤_, _<_};
 ghost use lib.Dec.{eqb};
 ghost use lib.ListN.{length, replicate};
 ghost use lib.Seq.{sets};
+ghost use Rattle.lists.specs.Checks.{refusal};
 ghost use Rattle.shares.specs.Layout.{width};
 ghost use Rattle.handin.specs.Lines.{parts, isDigit, lineOf};
 ghost use Rattle.handin.specs.Reader.{Share, capacity, takeNumbers, takeLine, takeLines, unread, readFrom, readNumbers, readLines, read};
@@ -353,7 +354,7 @@ fn read_text(text: &[u8], words: &mut [u16]) -> Outcome
 }
 
 fn refuse(buffer: &mut [u16], k: u16) -> Outcome
-    ensures { λ r. ⌜ answerOf r (now (buffer .exit)) ≡ unread (length (now (buffer .entry))) k ⌝ }
+    ensures { λ r. ⌜ answerOf r (now (buffer .exit)) ≡ unread (length (now (buffer .entry))) (refusal k) ⌝ }
 {
     fill(buffer, 0);
     Outcome::Refused(k)
