@@ -1,5 +1,6 @@
 -- What is proved of this crate.
 pub mod Answers
+pub mod Apart
 pub mod Coefficients
 pub mod Examples
 pub mod Hints
