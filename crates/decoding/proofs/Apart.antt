@@ -29,13 +29,13 @@ fits-ext xs t d set y z same f F =
     record {
       degree = F .degree;
       enough =
-        le-trans (F .enough)
-        (le-of-eq
-        (ap (card (size t))
-        (setOf-ext (size t) (agrees xs d z set f) (agrees xs d y set f)
-        (λ i h. ap (λ (b : Bool). has set i && b)
-        (all-ext d (λ k. eqb (value (f k) (getD xs i 0)) (z i k)) (λ k. eqb (value (f k) (getD xs i 0)) (y i k))
-        (λ k l. ap (eqb (value (f k) (getD xs i 0))) (sym (same i h k l))))))));
+          le-trans (F .enough)
+          (le-of-eq
+          (ap (card (size t))
+          (setOf-ext (size t) (agrees xs d z set f) (agrees xs d y set f)
+          (λ i h. ap (λ (b : Bool). has set i && b)
+          (all-ext d (λ k. eqb (value (f k) (getD xs i 0)) (z i k)) (λ k. eqb (value (f k) (getD xs i 0)) (y i k))
+          (λ k l. ap (eqb (value (f k) (getD xs i 0))) (sym (same i h k l))))))));
     }
 
 module _ (xs : List ℕ) (distinct : Distinct xs) (t : ℕ) (long : length xs ≡ size t) (d set : ℕ) where
