@@ -20,7 +20,7 @@ use Rattle.members.specs.Members.{size, ownPoints, has, setOf, card}
 use Rattle.members.proofs.Masks.{setOf-ext, setOf-has, subsets-equal, card-setOf, card-mono}
 use Rattle.shares.specs.Layout.{width, word}
 use Rattle.decoding.specs.Decoding.{surplus, agreeing}
-use Rattle.decoding.proofs.Own.{own-length}
+use Rattle.decoding.proofs.Points.{length-own}
 use Rattle.decoding.proofs.Unique.{agrees, agrees-member}
 use Rattle.dealing.specs.Dealing.{polynomial, dealtShares}
 use Rattle.dealing.proofs.Laws.{InRange}
@@ -107,6 +107,6 @@ demand2 t present quorum secret random dealt words dealing handed as-dealt =
     let d : ℕ = length secret in
     let r : InRange t secret random (dealing .buffer) = in-range t secret random dealt dealing in
     second-half t secret random dealt dealing present quorum words handed
-    ∙ opens-dealt (ownPoints t) (own-points t secret random dealt dealing) t (own-length t) secret random (r .secret-words) (r .random-words) present quorum words
+    ∙ opens-dealt (ownPoints t) (own-points t secret random dealt dealing) t (length-own t) secret random (r .secret-words) (r .random-words) present quorum words
     (handed .n-members) (handed .is-quorum) (handed .met)
     (subst (λ (dl : List ℕ). (i : ℕ) → i < size t → has present i ≡ true → AsDealt t d present dl words i) (dealt-is t secret random dealt dealing) as-dealt)

@@ -23,7 +23,7 @@ use Rattle.shares.specs.Layout.{width, word}
 use Rattle.pruning.specs.Pruning.{Largest, survivors}
 use Rattle.pruning.proofs.Largest.{survivors-largest}
 use Rattle.decoding.specs.Decoding.{surplus, need, agreeing, Fits}
-use Rattle.decoding.proofs.Own.{own-distinct, own-length}
+use Rattle.decoding.proofs.Points.{own-distinct, length-own}
 use Rattle.decoding.proofs.Unique.{need-most, agrees, card-agreeing}
 use Rattle.dealing.specs.Dealing.{Dealt, polynomial, dealtShares}
 use Rattle.dealing.proofs.Laws.{polynomial-degree, polynomial-zero, word-value, InRange, accepted-in-range, accepted-shares}
@@ -126,8 +126,7 @@ module _ (t : ℕ) (secret random dealt : List ℕ) (dealing : Dealing t secret 
   dealt-is = accepted-shares t secret random (dealing .buffer) dealt (dealing .accepted)
 
   pub own-points : Distinct (ownPoints t)
-  unfolding size
-  own-points = own-distinct t (omega (arith, in-range .threshold-high))
+  own-points = own-distinct t (in-range .threshold-high)
 
   -- opening goes on to its second half
   pub second-half : (present quorum : ℕ) (words : List ℕ) → HandedIn t (length secret) present quorum words
@@ -152,6 +151,6 @@ demand3 t present quorum secret random dealt words dealing handed honest many as
     (sym (dealt-is t secret random dealt dealing))
     (λ s. subst (Sound (ownPoints t) t d present secret (dealtShares (ownPoints t) t secret random) words)
     (sym (second-half t secret random dealt dealing present quorum words handed))
-    (sound (ownPoints t) (own-points t secret random dealt dealing) t (own-length t) secret random (r .secret-words) (r .random-words) present quorum words
+    (sound (ownPoints t) (own-points t secret random dealt dealing) t (length-own t) secret random (r .secret-words) (r .random-words) present quorum words
     (handed .met) honest many s))
     as-dealt

@@ -18,7 +18,7 @@ use Rattle.shares.specs.Layout.{width, word, shareWords, tagWord, keyα, keyβ}
 use Rattle.pruning.specs.Pruning.{votes, round, rounds, survivors}
 use Rattle.decoding.specs.Decoding.{surplus, need, agreeing, through, find}
 use Rattle.dealing.specs.Dealing.{randomLength, polynomial, dealtα, dealtβ, dealtWords, dealtTag, dealtShare, dealtShares, deal}
-use Rattle.reconstruction.specs.Votes.{usable, tagHolds, accepts, voteRows}
+use Rattle.reconstruction.specs.Votes.{fieldShare, usable, tagHolds, accepts, voteRows}
 use Rattle.reconstruction.specs.Reconstruction.{unopened, isQuorum, required, atZero, openedFrom, finish, reconstruct}
 use Rattle.claims.specs.Demands.{AsDealt, altered}
 use Rattle.claims.specs.Instances.{Instances}
@@ -41,7 +41,7 @@ as-tested t d present honest dealt words h i l e =
     }
 
 pub instances : Instances
-unfolding tab all count keep each first concat choose difference product power inverse eval value linear slopes interpolate size ownPoints bit has setOf card membersOf surplus need agreeing through find tag width word shareWords tagWord keyα keyβ votes round rounds survivors usable tagHolds accepts voteRows unopened isQuorum required atZero openedFrom finish reconstruct randomLength polynomial dealtα dealtβ dealtWords dealtTag dealtShare dealtShares deal altered
+unfolding tab all count keep each first concat choose difference product power inverse eval value linear slopes interpolate size ownPoints bit has setOf card membersOf surplus need agreeing through find tag width word shareWords tagWord keyα keyβ votes round rounds survivors fieldShare usable tagHolds accepts voteRows unopened isQuorum required atZero openedFrom finish reconstruct randomLength polynomial dealtα dealtβ dealtWords dealtTag dealtShare dealtShares deal altered
 instances =
     record {
       altered-survivor = record {

@@ -42,6 +42,10 @@ polynomial-length t secret random k e h =
     let m : t * k + t ≤ length random = coefficients-inside t (length secret) k (length random) e h in
     ap suc (length-take-le t (drop (t * k) random) (simp length-drop (omega arith)))
 
+pub polynomial-constant : (t : ℕ) (secret random : List ℕ) (k : ℕ) → getD (polynomial t secret random k) 0 0 ≡ getD secret k 0
+unfolding polynomial
+polynomial-constant t secret random k = refl
+
 pub polynomial-zero : (t : ℕ) (secret random : List ℕ) (k : ℕ) → getD secret k 0 < prime → value (polynomial t secret random k) 0 ≡ getD secret k 0
 unfolding polynomial value eval
 polynomial-zero t secret random k h = omega (arith, h)

@@ -1,15 +1,21 @@
 -- The points of some of the members: distinct, where all points are.
 -- Assumes nothing.
 use mathlib.Core.Path.{_≡_, sym, ap, _∙_, subst}
+use mathlib.Core.Bool.{Bool, true}
 use mathlib.Core.List.{List, map, Sublistᴰ, Sublistᴰ·slnil, Sublistᴰ·cons, Sublistᴰ·cons-cons}
-use Prim.Native.Nat.{ℕ}
-use lib.ListN.{length, getD}
-use Rattle.lists.specs.Tabulate.{tab}
-use Rattle.lists.proofs.Every.{Every}
-use Rattle.lists.proofs.Tabulate.{map-tab, tab-getD}
-use Rattle.lists.proofs.Choose.{every-sub, sub-map}
+use Prim.Native.Nat.{ℕ, zero, suc, _+_, _*_, _≤_, _<_, zero-le, suc-le-suc}
+use native.Mathlib.Nat.{suc-ne-zero, suc-inj}
+use native.Mathlib.Omega.{arith}
+use lib.ListN.{length, getD, length-map}
+use Rattle.lists.specs.Tabulate.{tab, count}
+use Rattle.lists.proofs.Blocks.{every-tab}
+use Rattle.lists.proofs.Every.{Every, every-both}
+use Rattle.lists.proofs.Tabulate.{length-tab, getD-tab, map-tab, tab-getD}
+use Rattle.lists.proofs.Choose.{every-sub, every-mapped, sub-map}
 use Rattle.field.proofs.Congruence.{_≈_}
-use Rattle.polynomial.proofs.Roots.{Distinct, distinct-more}
+use Rattle.members.specs.Members.{size, ownPoints}
+use Rattle.members.proofs.Listed.{passing, passing-sub, passing-every, passing-below, length-passing}
+use Rattle.polynomial.proofs.Roots.{Distinct, distinct-none, distinct-more}
 
 -- the points of the members ms
 abbrev pub pointsOf : List ℕ → List ℕ → List ℕ
@@ -27,3 +33,36 @@ all-points xs n e = map-tab (λ i. getD xs i 0) n (λ i. i) ∙ ap (λ (m : ℕ)
 pub distinct-points : (xs : List ℕ) (n : ℕ) {ms : List ℕ} → length xs ≡ n → Distinct xs → Sublistᴰ ms (tab n (λ i. i)) → Distinct (pointsOf xs ms)
 distinct-points xs n {ms} e d s =
     distinct-sub (sub-map (λ i. getD xs i 0) s) (subst Distinct (sym (all-points xs n e)) d)
+
+-- the points of the members that pass a test
+module _ (xs : List ℕ) (n : ℕ) (long : length xs ≡ n) (distinct : Distinct xs) (p : ℕ → Bool) where
+  pub passing-points : Distinct (pointsOf xs (passing n p))
+  passing-points = distinct-points xs n long distinct (passing-sub n p)
+
+  pub count-points : length (pointsOf xs (passing n p)) ≡ count n p
+  count-points = length-map (passing n p) (λ i. getD xs i 0) ∙ length-passing n p
+
+  pub at-points : {P : ℕ → Type 0} → ((i : ℕ) → i < n → p i ≡ true → P (getD xs i 0)) → Every P (pointsOf xs (passing n p))
+  at-points h = every-mapped (λ i. getD xs i 0) (every-both h (passing-below n p) (passing-every n p))
+
+-- ---- the members' own points
+
+distinct-tab : (n : ℕ) (f : ℕ → ℕ) → ((i j : ℕ) → i < n → j < n → f i ≈ f j → i ≡ j) → Distinct (tab n f)
+unfolding tab
+distinct-tab zero f h = distinct-none
+distinct-tab (suc n) f h =
+    distinct-more
+    (every-tab n (λ i. f (suc i)) (λ i k e. suc-ne-zero i (h (suc i) 0 (suc-le-suc k) (suc-le-suc zero-le) e)))
+    (distinct-tab n (λ i. f (suc i)) (λ i j k l e. suc-inj (h (suc i) (suc j) (suc-le-suc k) (suc-le-suc l) e)))
+
+pub own-distinct : (t : ℕ) → t ≤ 15 → Distinct (ownPoints t)
+unfolding ownPoints size
+own-distinct t h = distinct-tab (2 * t + 1) (λ i. suc i) (λ i j k l e. omega arith)
+
+pub length-own : (t : ℕ) → length (ownPoints t) ≡ size t
+unfolding ownPoints
+length-own t = length-tab (size t) (λ i. suc i)
+
+pub own-point : (t i : ℕ) → i < size t → getD (ownPoints t) i 0 ≡ suc i
+unfolding ownPoints
+own-point t i h = getD-tab (size t) (λ j. suc j) i 0 h

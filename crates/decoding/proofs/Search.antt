@@ -12,7 +12,7 @@ use lib.ListN.{length, getD, take, length-map}
 use lib.Seq.{length-take-le}
 use borrow.Author.Tests.{leb-true, le-leb}
 use Rattle.lists.specs.Tabulate.{tab, choose}
-use Rattle.lists.proofs.Every.{Every, none as every-none, more, every-both}
+use Rattle.lists.proofs.Every.{Every, none as every-none, more, every-map, every-both}
 use Rattle.lists.proofs.Tabulate.{length-tab, getD-tab, tab-ext, tab-getD}
 use Rattle.lists.proofs.Choose.{every-sub, every-mapped, take-sub, sub-chosen, chosen-length, first-passes, first-member, first-finds}
 use Rattle.field.specs.Field.{prime}
@@ -42,11 +42,9 @@ module _ (xs : List ℕ) (d : ℕ) (y : ℕ → ℕ → ℕ) (ms : List ℕ) whe
   unfolding through
   nth-through k h = getD-tab d (throughAt xs y ms) k [] h
 
-  as-many : (k : ℕ) → length (map (λ i. y i k) ms) ≡ length (pointsOf xs ms)
-  as-many k = length-map ms (λ i. y i k) ∙ sym (length-map ms (λ i. getD xs i 0))
-
-  length-through : (k : ℕ) → length (throughAt xs y ms k) ≡ length ms
-  length-through k = length-interpolate (pointsOf xs ms) (map (λ i. y i k) ms) (as-many k) ∙ length-map ms (λ i. getD xs i 0)
+pub length-interpolated : (xs : List ℕ) (y : ℕ → ℕ) (ms : List ℕ) → length (interpolate (pointsOf xs ms) (map y ms)) ≡ length ms
+length-interpolated xs y ms =
+    length-interpolate (pointsOf xs ms) (map y ms) (length-map ms y ∙ sym (length-map ms (λ i. getD xs i 0))) ∙ length-map ms (λ i. getD xs i 0)
 
 meets-every : (g : List ℕ) (a b : ℕ → ℕ) (ms : List ℕ) → Meets g (map a ms) (map b ms) → Every (λ i. eval g (a i) ≈ b i) ms
 meets-every g a b [] m = every-none
@@ -64,7 +62,7 @@ find-found xs t d y set fs e =
     let ms : List ℕ = r .0 in
     let same : (k : ℕ) → k < d → nth fs k ≡ throughAt xs y ms k = λ k h. ap (λ (l : List (List ℕ)). nth l k) (sym (r .2)) ∙ nth-through xs d y ms k h in
     let long : (k : ℕ) → k < d → length (nth fs k) ≡ suc t =
-    λ k h. ap length (same k h) ∙ length-through xs d y ms k ∙ chosen-length (suc t) (membersOf (size t) set) (r .1) in
+    λ k h. ap length (same k h) ∙ length-interpolated xs (λ i. y i k) ms ∙ chosen-length (suc t) (membersOf (size t) set) (r .1) in
     record {
       fits = record {
         degree = λ k h. le-of-eq (long k h);
@@ -75,20 +73,26 @@ find-found xs t d y set fs e =
       words = λ k h. subst (Every (λ c. c < prime)) (sym (same k h)) (interpolate-words (pointsOf xs ms) (map (λ i. y i k) ms));
     }
 
+-- the polynomial through members at which f has the values y, at least as many as f has coefficients, is f
+pub interpolated-same : (xs : List ℕ) → Distinct xs → (n : ℕ) → length xs ≡ n → (y : ℕ → ℕ) (f ms : List ℕ) → length f ≤ length ms → Sublistᴰ ms (tab n (λ i. i))
+    → Every (λ i. eval f (getD xs i 0) ≈ y i) ms → (z : ℕ) → eval (interpolate (pointsOf xs ms) (map y ms)) z ≈ eval f z
+interpolated-same xs distinct n long y f ms deg s e z =
+    let g : List ℕ = interpolate (pointsOf xs ms) (map y ms) in
+    let l : length ms ≡ length (pointsOf xs ms) = sym (length-map ms (λ i. getD xs i 0)) in
+    let as-many : length (map y ms) ≡ length (pointsOf xs ms) = length-map ms y ∙ l in
+    let apart : Distinct (pointsOf xs ms) = distinct-points xs n long distinct s in
+    let met : Every (λ i. eval g (getD xs i 0) ≈ y i) ms = meets-every g (λ i. getD xs i 0) y ms (meets (pointsOf xs ms) (map y ms) as-many apart) in
+    agree g f (pointsOf xs ms) (le-of-eq (length-interpolate (pointsOf xs ms) (map y ms) as-many)) (le-trans deg (le-of-eq l)) apart
+    (every-mapped (λ i. getD xs i 0) (every-both (λ i m a. same-trans m (same-sym a)) met e))
+    z
+
 module _ (xs : List ℕ) (distinct : Distinct xs) (t : ℕ) (long : length xs ≡ size t) (d : ℕ) (y : ℕ → ℕ → ℕ) (set : ℕ) where
   -- members that agree with f, at least t + 1 of them: the polynomials through these are f
   through-same : (f : ℕ → List ℕ) (ms : List ℕ) → ((k : ℕ) → k < d → length (f k) ≤ length ms) → Sublistᴰ ms (tab (size t) (λ i. i))
       → Every (λ i. agrees xs d y set f i ≡ true) ms → (k : ℕ) → k < d → (z : ℕ) → eval (nth (through xs d y ms) k) z ≈ eval (f k) z
   through-same f ms deg s e k h z =
-      let g : List ℕ = throughAt xs y ms k in
-      let l : length ms ≡ length (pointsOf xs ms) = sym (length-map ms (λ i. getD xs i 0)) in
-      let apart : Distinct (pointsOf xs ms) = distinct-points xs (size t) long distinct s in
-      let met : Every (λ i. eval g (getD xs i 0) ≈ y i k) ms =
-      meets-every g (λ i. getD xs i 0) (λ i. y i k) ms (meets (pointsOf xs ms) (map (λ i. y i k) ms) (as-many xs d y ms k) apart) in
       same-trans (same-eq (ap (λ (c : List ℕ). eval c z) (nth-through xs d y ms k h)))
-      (agree g (f k) (pointsOf xs ms) (le-of-eq (length-through xs d y ms k ∙ l)) (le-trans (deg k h) (le-of-eq l)) apart
-      (every-mapped (λ i. getD xs i 0) (every-both (λ i m a. same-trans m (same-sym (agrees-meets xs d y set f i a k h))) met e))
-      z)
+      (interpolated-same xs distinct (size t) long (λ i. y i k) (f k) ms (deg k h) s (every-map (λ i a. agrees-meets xs d y set f i a k h) e) z)
 
   pub find-complete : (f : ℕ → List ℕ) → Fits xs t d y set f → (fs : List (List ℕ)) × (find xs t d y set ≡ some fs)
   unfolding find

@@ -14,7 +14,7 @@ use lib.ListN.{length, getD, take, drop, take-append-drop, drop-of-length-le}
 use lib.Seq.{take-suc, drop-cons, take-all}
 use Rattle.lists.specs.Tabulate.{each}
 use Rattle.lists.proofs.Bools.{and-intro, and-left, and-right, test}
-use Rattle.lists.proofs.Stores.{each-append}
+use Rattle.lists.proofs.StoredBlocks.{each-append}
 use Rattle.handin.specs.Lines.{before, parts, decimal, isNumeral, numerals, lineOf}
 use Rattle.handin.specs.Reader.{Share, shares, refused, takeLine, takeLines, readNumbers, readLines}
 use Rattle.handin.specs.Scanning.{free, after, FirstEnds, numbersIn, joined}

@@ -13,7 +13,7 @@ use lib.Seq.{drop-cons}
 use Rattle.lists.specs.Tabulate.{each}
 use Rattle.lists.proofs.Bools.{and-left}
 use Rattle.handin.specs.Lines.{isDigit, decimal, leadsWithZero, isNumeral}
-use Rattle.handin.specs.Answers.{digitsFrom, numeralOf}
+use Rattle.handin.specs.Steps.{digitsFrom, numeralOf}
 use Rattle.handin.specs.declared.Parsed.the-variants.{Number, Nothing}
 use Rattle.handin.proofs.Lines.{decimal-ge}
 

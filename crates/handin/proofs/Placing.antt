@@ -14,7 +14,7 @@ use lib.Seq.{sets}
 use Rattle.lists.specs.Tabulate.{first}
 use Rattle.lists.proofs.Bools.{test}
 use Rattle.lists.proofs.Count.{toℕ}
-use Rattle.lists.proofs.Stores.{sets-block, concat-replicate}
+use Rattle.lists.proofs.StoredBlocks.{sets-block, concat-replicate}
 use Rattle.members.specs.Members.{size, setOf}
 use Rattle.shares.specs.Layout.{width}
 use Rattle.handin.specs.Reader.{Share, capacity, shareOf, isSome, wordsOr, placed}

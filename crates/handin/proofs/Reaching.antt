@@ -8,6 +8,7 @@ use native.Mathlib.Numerals.{add-one}
 use native.Mathlib.Omega.{arith}
 use lib.ListN.{length, take, drop, replicate, drop-of-length-le}
 use lib.Seq.{drop-cons, take-all}
+use Rattle.lists.specs.Checks.{refusal}
 use Rattle.members.specs.Members.{size}
 use Rattle.shares.specs.Layout.{width}
 use Rattle.handin.specs.Lines.{parts}
@@ -80,12 +81,12 @@ module _ (t d : ℕ) (all : Taken) (rest : List ℕ) (present : ℕ) (words : Li
         s .so ∙ rw (ends .splits, a, b) (unended t d (s .taken) rest h)
 
     module _ (ne : e ≡ length rest → ⊥) (after-words : List ℕ) (r : Line) (comes : (taken : List Share) → Holds t d taken present words → Comes t d (takeLine t d taken (take e rest)) r after-words) where
-      pub reached-refused : (k : ℕ) → r ≡ L.Refused k → all ≡ refused k
+      pub reached-refused : (k : ℕ) → r ≡ L.Refused k → all ≡ refused (refusal k)
       unfolding Comes
       reached-refused k q =
           let p : (x : List ℕ) × (xs : List (List ℕ)) × (parts 10 (drop (e + 1) rest) ≡ x ∷ xs) = parts-some 10 (drop (e + 1) rest) in
           let c : Comes t d (takeLine t d (s .taken) (take e rest)) (L.Refused k) after-words = subst (λ (x : Line). Comes t d (takeLine t d (s .taken) (take e rest)) x after-words) q (comes (s .taken) (s .holds)) in
-          s .so ∙ rw (first-split rest e ends ne, p .2) (lines-refused t d (s .taken) (take e rest) (p .0) (p .1) k c)
+          s .so ∙ rw (first-split rest e ends ne, p .2) (lines-refused t d (s .taken) (take e rest) (p .0) (p .1) (refusal k) c)
 
       pub reached-next : (m : ℕ) (more : List ℕ) → r ≡ L.Accepted m → more ≡ drop (e + 1) rest → Reached t d all more m after-words
       unfolding Comes
@@ -100,7 +101,7 @@ module _ (t d : ℕ) (all : Taken) (rest : List ℕ) (present : ℕ) (words : Li
 
 -- the answer
 module _ (t d quorum len : ℕ) (all : Taken) (ws : List ℕ) where
-  pub answer-refused : (k : ℕ) → length ws ≡ len → all ≡ refused k → answerOf (O.Refused k) (cleared (O.Refused k) ws) ≡ readFrom len t d quorum all
+  pub answer-refused : (k : ℕ) → length ws ≡ len → all ≡ refused (refusal k) → answerOf (O.Refused k) (cleared (O.Refused k) ws) ≡ readFrom len t d quorum all
   unfolding answerOf cleared readFrom unread
   answer-refused k e q = rw (q, e)
 

@@ -10,6 +10,7 @@ use native.Mathlib.Omega.{arith}
 use borrow.Author.Tests.{le-leb, lt-leb, eq-eqb, ne-eqb}
 use lib.Dec.{leb}
 use lib.ListN.{length, getD, take, drop, replicate, drop-of-length-le}
+use Rattle.lists.specs.Checks.{refusal}
 use Rattle.handin.specs.Lines.{parts, lineOf}
 use Rattle.handin.specs.Reader.{takeLines, unread, readFrom, readNumbers, readLines, read}
 use Rattle.handin.specs.Scanning.{after, FirstEnds}
@@ -21,25 +22,25 @@ use Rattle.handin.proofs.Lines.{parts-some}
 use Rattle.handin.proofs.Reaching.{first-split}
 
 -- a refusal's answer: the buffer is filled with 0, or will be
-pub refused-so : (k len : ℕ) (zeros : List ℕ) → zeros ≡ replicate len 0 → answerOf (Refused k) zeros ≡ unread len k
+pub refused-so : (k len : ℕ) (zeros : List ℕ) → zeros ≡ replicate len 0 → answerOf (Refused k) zeros ≡ unread len (refusal k)
 unfolding answerOf unread
 refused-so k len zeros z = rw z
 
-refusal : (len k : ℕ) (ws : List ℕ) → length ws ≡ len → answerOf (Refused k) (cleared (Refused k) ws) ≡ unread len k
+cleared-so : (len k : ℕ) (ws : List ℕ) → length ws ≡ len → answerOf (Refused k) (cleared (Refused k) ws) ≡ unread len (refusal k)
 unfolding cleared
-refusal len k ws e = refused-so k len (replicate (length ws) 0) (ap (λ (n : ℕ). replicate n 0) e)
+cleared-so len k ws e = refused-so k len (replicate (length ws) 0) (ap (λ (n : ℕ). replicate n 0) e)
 
 -- the numbers of a D line: t and d are in range or not
 module _ (len : ℕ) (ns ws : List ℕ) (lines : List (List ℕ)) (e : length ws ≡ len) where
   pub first-t : (getD ns 0 0 < 1) ⊎ (15 < getD ns 0 0) → answerOf (Refused 22) (cleared (Refused 22) ws) ≡ readNumbers len (some ns) lines
   unfolding readNumbers
-  first-t (inl h) = rw (lt-leb 1 (getD ns 0 0) h) (refusal len 22 ws e)
-  first-t (inr h) = rw (lt-leb (getD ns 0 0) 15 h, and-false (leb 1 (getD ns 0 0))) (refusal len 22 ws e)
+  first-t (inl h) = rw (lt-leb 1 (getD ns 0 0) h) (cleared-so len 22 ws e)
+  first-t (inr h) = rw (lt-leb (getD ns 0 0) 15 h, and-false (leb 1 (getD ns 0 0))) (cleared-so len 22 ws e)
 
   pub first-d : 1 ≤ getD ns 0 0 → getD ns 0 0 ≤ 15 → (getD ns 1 0 < 1) ⊎ (64 < getD ns 1 0) → answerOf (Refused 22) (cleared (Refused 22) ws) ≡ readNumbers len (some ns) lines
   unfolding readNumbers
-  first-d low high (inl h) = rw (le-leb 1 (getD ns 0 0) low, le-leb (getD ns 0 0) 15 high, lt-leb 1 (getD ns 1 0) h) (refusal len 22 ws e)
-  first-d low high (inr h) = rw (le-leb 1 (getD ns 0 0) low, le-leb (getD ns 0 0) 15 high, lt-leb (getD ns 1 0) 64 h, and-false (leb 1 (getD ns 1 0))) (refusal len 22 ws e)
+  first-d low high (inl h) = rw (le-leb 1 (getD ns 0 0) low, le-leb (getD ns 0 0) 15 high, lt-leb 1 (getD ns 1 0) h) (cleared-so len 22 ws e)
+  first-d low high (inr h) = rw (le-leb 1 (getD ns 0 0) low, le-leb (getD ns 0 0) 15 high, lt-leb (getD ns 1 0) 64 h, and-false (leb 1 (getD ns 1 0))) (cleared-so len 22 ws e)
 
 pub first-in : (len : ℕ) (ns : List ℕ) (lines : List (List ℕ)) → InRange (getD ns 0 0) (getD ns 1 0) → readFrom len (getD ns 0 0) (getD ns 1 0) (getD ns 2 0) (takeLines (getD ns 0 0) (getD ns 1 0) [] lines) ≡ readNumbers len (some ns) lines
 unfolding readNumbers
@@ -52,7 +53,7 @@ module _ (len : ℕ) (text : List ℕ) (e : ℕ) (ends : FirstEnds 10 text e) wh
   text-unended ws w q =
       let l : length text ≤ e = omega arith in
       let a : drop e text ≡ [] = drop-of-length-le text l in
-      rw (ends .splits, a) (refusal len 22 ws w)
+      rw (ends .splits, a) (cleared-so len 22 ws w)
 
   module _ (ne : e ≡ length text → ⊥) where
     lines-are : readLines len (parts 10 text) ≡ readNumbers len (lineOf 68 3 (take e text)) (parts 10 (drop (e + 1) text))
@@ -63,7 +64,7 @@ module _ (len : ℕ) (text : List ℕ) (e : ℕ) (ends : FirstEnds 10 text e) wh
 
     pub text-bad : (ws : List ℕ) → length ws ≡ len → lineOf 68 3 (take e text) ≡ none → answerOf (Refused 22) (cleared (Refused 22) ws) ≡ readLines len (parts 10 text)
     unfolding readNumbers
-    text-bad ws w q = refusal len 22 ws w ∙ sym (lines-are ∙ rw q)
+    text-bad ws w q = cleared-so len 22 ws w ∙ sym (lines-are ∙ rw q)
 
     pub text-good : (ns more : List ℕ) → lineOf 68 3 (take e text) ≡ some ns → more ≡ drop (e + 1) text → readNumbers len (some ns) (parts 10 more) ≡ readLines len (parts 10 text)
     text-good ns more q m = ap₂ (λ (o : Option (List ℕ)) (l : List ℕ). readNumbers len o (parts 10 l)) (sym q) m ∙ sym lines-are
@@ -87,5 +88,5 @@ module _ (text : List ℕ) (len : ℕ) where
     unfolding cleared
     read-accepted ws t d quorum present a q = ap (λ (x : Outcome). answerOf x (cleared x ws)) (sym q) ∙ a ∙ read-is
 
-    pub read-refused : (ws : List ℕ) (k : ℕ) {r : Outcome} → answerOf r (cleared r ws) ≡ readLines had (parts 10 text) → r ≡ Refused k → unread (length ws) k ≡ read text len
-    read-refused ws k a q = sym (refusal (length ws) k ws refl) ∙ ap (λ (x : Outcome). answerOf x (cleared x ws)) (sym q) ∙ a ∙ read-is
+    pub read-refused : (ws : List ℕ) (k : ℕ) {r : Outcome} → answerOf r (cleared r ws) ≡ readLines had (parts 10 text) → r ≡ Refused k → unread (length ws) (refusal k) ≡ read text len
+    read-refused ws k a q = sym (cleared-so (length ws) k ws refl) ∙ ap (λ (x : Outcome). answerOf x (cleared x ws)) (sym q) ∙ a ∙ read-is

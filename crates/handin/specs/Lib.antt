@@ -5,3 +5,4 @@ pub mod Progress
 pub mod Reader
 pub mod Sample
 pub mod Scanning
+pub mod Steps

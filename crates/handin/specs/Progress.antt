@@ -4,6 +4,7 @@ use Prim.Native.Nat.{ℕ, _≤_}
 use mathlib.Core.Path.{_≡_}
 use mathlib.Core.List.{List}
 use lib.ListN.{length, replicate}
+use Rattle.lists.specs.Checks.{refusal}
 use Rattle.members.specs.Members.{size, setOf}
 use Rattle.shares.specs.Layout.{width}
 use Rattle.handin.specs.Reader.{Share, shareOf, isSome, wordsOr, Taken, shares, refused, placed}
@@ -26,4 +27,4 @@ pub record Holds (t d : ℕ) (taken : List Share) (present : ℕ) (words : List 
 -- what lines come to, as the code has it: the mask and the buffer of the shares taken, or a refusal's number
 unfoldable pub Comes : ℕ → ℕ → Taken → Line → List ℕ → Type 0
 Comes t d result (Accepted present) words = (now : List Share) × (result ≡ shares now) × Holds t d now present words
-Comes t d result (Refused k) words = result ≡ refused k
+Comes t d result (Refused k) words = result ≡ refused (refusal k)

@@ -2,17 +2,19 @@
 ghost use mathlib.Core.Path.{_≡_};
 ghost use mathlib.Core.Bool.{cond};
 ghost use mathlib.Core.Option.{some, none};
+ghost use mathlib.Core.List.{List, []};
 ghost use Prim.Native.Nat.{_+_, _^_, _≤_, _<_};
 ghost use lib.Dec.{eqb};
 ghost use lib.ListN.{length, replicate};
 ghost use lib.Seq.{sets};
-ghost use mathlib.Core.List.{List, []};
+ghost use Rattle.lists.specs.Checks.{refusal};
 ghost use Rattle.shares.specs.Layout.{width};
 ghost use Rattle.handin.specs.Lines.{parts, isDigit, lineOf};
 ghost use Rattle.handin.specs.Reader.{Share, capacity, takeNumbers, takeLine, takeLines, unread, readFrom, readNumbers, readLines, read};
 ghost use Rattle.handin.specs.Progress.{InRange, Holds, Comes};
 ghost use Rattle.handin.specs.Scanning.{after, FirstEnds, numbersIn};
-ghost use Rattle.handin.specs.Answers.{kindOf, Marks, digitsFrom, numeralOf, NextField, answerOf, cleared};
+ghost use Rattle.handin.specs.Steps.{kindOf, Marks, digitsFrom, numeralOf, NextField};
+ghost use Rattle.handin.specs.Answers.{answerOf, cleared};
 
 // What a byte is.
 enum Kind {
@@ -352,7 +354,7 @@ fn read_text(text: &[u8], words: &mut [u16]) -> Outcome
 }
 
 fn refuse(buffer: &mut [u16], k: u16) -> Outcome
-    ensures { λ r. ⌜ answerOf r (now (buffer .exit)) ≡ unread (length (now (buffer .entry))) k ⌝ }
+    ensures { λ r. ⌜ answerOf r (now (buffer .exit)) ≡ unread (length (now (buffer .entry))) (refusal k) ⌝ }
 {
     fill(buffer, 0);
     Outcome::Refused(k)

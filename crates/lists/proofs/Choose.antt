@@ -4,8 +4,8 @@ use mathlib.Core.Path.{_≡_, refl, sym, ap, _∙_, subst}
 use mathlib.Core.Logic.{_⊎_, inl, inr}
 use mathlib.Core.Bool.{Bool, true, false, cond, false≢true}
 use mathlib.Core.Option.{Option, some, Option·some-injective, Option·none-ne-some}
-use mathlib.Core.List.{List, [], _∷_, map, List·Memᴰ, List·Memᴰ·head, List·Memᴰ·tail, List·Memᴰ·not-nil, List·Memᴰ·cases-cons, List·Memᴰ·append-cases, Memᴰ·cast, Memᴰ·append-left, Memᴰ·append-right, Memᴰ·map, Memᴰ·of-map, Sublistᴰ, Sublistᴰ·slnil, Sublistᴰ·cons, Sublistᴰ·cons-cons, Sublistᴰ·nil-sublist}
-use Prim.Native.Nat.{ℕ, zero, suc, _+_, _<_, zero-le, suc-le-suc}
+use mathlib.Core.List.{List, [], _∷_, _++_, map, List·Memᴰ, List·Memᴰ·head, List·Memᴰ·tail, List·Memᴰ·not-nil, List·Memᴰ·cases-cons, List·Memᴰ·append-cases, Memᴰ·cast, Memᴰ·append-left, Memᴰ·append-right, Memᴰ·map, Memᴰ·of-map, Sublistᴰ, Sublistᴰ·slnil, Sublistᴰ·cons, Sublistᴰ·cons-cons, Sublistᴰ·nil-sublist}
+use Prim.Native.Nat.{ℕ, zero, suc, _+_}
 use native.Mathlib.Omega.{arith}
 use lib.ListN.{length, take}
 use Rattle.lists.specs.Tabulate.{tab, count, keep, first, choose}
@@ -25,11 +25,6 @@ module _ {A : Type 0} where
   take-sub (suc n) [] = Sublistᴰ·slnil
   take-sub (suc n) (x ∷ l) = Sublistᴰ·cons-cons refl (take-sub n l)
 
-  pub every-tab : {P : A → Type 0} (n : ℕ) (f : ℕ → A) → ((i : ℕ) → i < n → P (f i)) → Every P (tab n f)
-  unfolding tab
-  every-tab zero f h = every-none
-  every-tab (suc n) f h = more (h 0 (suc-le-suc zero-le)) (every-tab n (λ i. f (suc i)) (λ i k. h (suc i) (suc-le-suc k)))
-
   -- ---- what passes a test
 
   abbrev picked : Bool → A → List A → List A
@@ -43,6 +38,15 @@ module _ {A : Type 0} where
       at : (b : Bool) {k : List A} → Sublistᴰ k l → Sublistᴰ (picked b x k) (x ∷ l)
       at true s = Sublistᴰ·cons-cons refl s
       at false s = Sublistᴰ·cons s
+
+  pub keep-append : (p : A → Bool) (l m : List A) → keep p (l ++ m) ≡ keep p l ++ keep p m
+  unfolding keep
+  keep-append p [] m = refl
+  keep-append p (x ∷ l) m = at (p x) (keep p l) (keep p m) (keep-append p l m)
+    where
+      at : (b : Bool) {k : List A} (r s : List A) → k ≡ r ++ s → picked b x k ≡ picked b x r ++ s
+      at true r s e = ap (λ (y : List A). x ∷ y) e
+      at false r s e = e
 
   -- what passes one test among what passes another
   pub keep-mono : (p q : A → Bool) → ((x : A) → p x ≡ true → q x ≡ true) → (l : List A) → Sublistᴰ (keep p l) (keep q l)

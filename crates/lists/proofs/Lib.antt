@@ -6,7 +6,8 @@ pub mod Choose
 pub mod Common
 pub mod Count
 pub mod Every
-pub mod Fill
 pub mod InPlace
+pub mod StoredBlocks
 pub mod Stores
+pub mod Tables
 pub mod Tabulate

@@ -1,76 +1,110 @@
--- Laws of `each`, `concat` and `sets`: lists that are made of blocks.
+-- Words stored one after the other from a place on (`sets` of lib.Seq): laws, and loops that store a table or lists one after the other.
 -- Assumes nothing.
 use mathlib.Core.Path.{_≡_, refl, sym, ap, ap₂, _∙_}
-use mathlib.Core.Bool.{Bool, true, false, _&&_}
-use mathlib.Core.List.{List, [], _∷_, _++_, append-assoc}
-use Prim.Native.Nat.{ℕ, zero, suc, _+_, _*_, _<_, zero-le, suc-le-suc}
-use native.Mathlib.Nat.{not-suc-le-zero, le-of-suc-le-suc, suc-ne-zero, suc-inj, zero-add, suc-add, add-suc, zero-mul}
+use mathlib.Core.List.{List, [], _∷_, _++_, append-assoc, append-nil}
+use Prim.Native.Nat.{ℕ, suc, _+_, _-_, _*_, _≤_, _<_, zero-le}
+use native.Mathlib.Nat.{add-zero}
+use native.Mathlib.Numerals.{add-one}
 use native.Mathlib.Omega.{arith}
-use lib.ListN.{length, set, drop, replicate, length-append, replicate-append-replicate}
-use lib.Seq.{sets, sets-eq, drop-at}
-use Rattle.lists.specs.Tabulate.{tab, each, concat}
-use Rattle.lists.proofs.Tabulate.{tab-ext}
+use lib.ListN.{length, take, drop, set, drop-of-length-le}
+use lib.Seq.{sets, sets-eq, length-sets, length-take-le, take-at, drop-at, take-set-le, drop-set-add}
+use Rattle.lists.specs.Tabulate.{tab, concat}
+use Rattle.lists.proofs.Tabulate.{length-tab}
+use Rattle.lists.proofs.Blocks.{tab-more, concat-more, length-concat}
 
 module _ {A : Type 0} where
-  pub each-append : (p : A → Bool) (xs ys : List A) → each p (xs ++ ys) ≡ each p xs && each p ys
-  unfolding each
-  each-append p [] ys = refl
-  each-append p (x ∷ xs) ys = and-assoc (p x) (each p xs) (each p ys) (each-append p xs ys)
-    where
-      and-assoc : (a b c : Bool) {e : Bool} → e ≡ b && c → a && e ≡ (a && b) && c
-      and-assoc true b c h = h
-      and-assoc false b c h = refl
+  -- stores keep the length
+  pub sets-length : (l vs now : List A) (at : ℕ) → now ≡ sets l at vs → length now ≡ length l
+  sets-length l vs now at e = ap length e ∙ length-sets l at vs
 
-  set-append-right : (xs ys : List A) (i : ℕ) (a : A) → set (xs ++ ys) (length xs + i) a ≡ xs ++ set ys i a
-  set-append-right [] ys i a = ap (λ (k : ℕ). set ys k a) (zero-add i)
-  set-append-right (x ∷ xs) ys i a =
-      ap (λ (k : ℕ). set (x ∷ xs ++ ys) k a) (suc-add (length xs) i) ∙ ap (λ (l : List A). x ∷ l) (set-append-right xs ys i a)
+  -- some words and then others
+  pub sets-append : (l vs ws : List A) (at : ℕ) → sets l at (vs ++ ws) ≡ sets (sets l at vs) (at + length vs) ws
+  sets-append l [] ws at = ap (λ (n : ℕ). sets l n ws) (sym (add-zero at))
+  sets-append l (a ∷ vs) ws at = sets-append (set l at a) vs ws (suc at) ∙ ap (λ (n : ℕ). sets (sets l at (a ∷ vs)) n ws) (omega arith)
 
-  -- stores past a first block
-  pub sets-skip : (xs ys : List A) (i : ℕ) (vs : List A) → sets (xs ++ ys) (length xs + i) vs ≡ xs ++ sets ys i vs
-  sets-skip xs ys i [] = refl
-  sets-skip xs ys i (v ∷ vs) =
-      ap₂ (λ (l : List A) (k : ℕ). sets l k vs) (set-append-right xs ys i v) (sym (add-suc (length xs) i))
-      ∙ sets-skip xs (set ys i v) (suc i) vs
+  pub sets-then : (l vs ws : List A) (at n : ℕ) → length vs ≡ n → sets l at (vs ++ ws) ≡ sets (sets l at vs) (at + n) ws
+  sets-then l vs ws at n e = sets-append l vs ws at ∙ ap (λ (k : ℕ). sets (sets l at vs) (at + k) ws) e
 
-  -- stores over a first block
-  pub sets-over : (xs ys vs : List A) → length xs ≡ length vs → sets (xs ++ ys) 0 vs ≡ vs ++ ys
-  sets-over xs ys vs e =
-      sets-eq vs (xs ++ ys) 0 (simp length-append (omega arith))
-      ∙ ap (λ (k : ℕ). vs ++ drop k (xs ++ ys)) (zero-add (length vs))
-      ∙ ap (λ (l : List A). vs ++ l) (drop-at xs ys (length vs) e)
+  -- what was stored stands there
+  pub sets-read : (l vs : List A) (at n : ℕ) → length vs ≡ n → at + n ≤ length l → take n (drop at (sets l at vs)) ≡ vs
+  sets-read l vs at n e h =
+      ap (λ (s : List A). take n (drop at s))
+      (sets-eq vs l at (omega arith) ∙ append-assoc (take at l) vs (drop (at + length vs) l))
+      ∙ ap (take n) (drop-at (take at l) (vs ++ drop (at + length vs) l) at (length-take-le at l (omega arith)))
+      ∙ take-at vs (drop (at + length vs) l) n e
 
-  -- a block of the same width stored in its place
-  pub sets-block :
-      (n w i : ℕ) (f g : ℕ → List A) (z : List A)
-      → i < n
-      → ((j : ℕ) → j < n → length (f j) ≡ w)
-      → length (g i) ≡ w
-      → ((j : ℕ) → j < n → (j ≡ i → ⊥) → g j ≡ f j)
-      → sets (concat (tab n f) ++ z) (i * w) (g i) ≡ concat (tab n g) ++ z
+  -- as many words as there are places
+  pub sets-whole : (l vs : List A) → length vs ≡ length l → sets l 0 vs ≡ vs
+  sets-whole l vs e =
+      sets-eq vs l 0 (omega arith)
+      ∙ ap (λ (r : List A). vs ++ r) (drop-of-length-le l {i = 0 + length vs} (omega arith))
+      ∙ append-nil vs
+
+  part-set : (l : List A) (a : A) (at n place : ℕ) → at + n ≤ place → take n (drop at (set l place a)) ≡ take n (drop at l)
+  part-set l a at n place h =
+      ap (λ (p : ℕ). take n (drop at (set l p a))) {y = at + (place - at)} (omega arith)
+      ∙ ap (take n) (drop-set-add at l (place - at) a)
+      ∙ take-set-le n (drop at l) (place - at) a (omega arith)
+
+  -- a part before the stores stays
+  pub part-kept : (l vs : List A) (at n place : ℕ) → at + n ≤ place → take n (drop at (sets l place vs)) ≡ take n (drop at l)
+  part-kept l [] at n place h = refl
+  part-kept l (a ∷ vs) at n place h = part-kept (set l place a) vs at n (suc place) (omega arith) ∙ part-set l a at n place h
+
+  -- a loop that has stored the first j of n words
+  pub record Filled (n : ℕ) (f : ℕ → A) (l : List A) (at : ℕ) (now : List A) (j : ℕ) : Type 0 where
+    pub inside : j ≤ n
+    pub so-far : now ≡ sets l at (tab j f)
+
+  pub filled-first : (n : ℕ) (f : ℕ → A) (l : List A) (at : ℕ) → Filled n f l at l 0
+  unfolding tab
+  filled-first n f l at = record { inside = zero-le; so-far = refl }
+
+  pub filled-length : (n : ℕ) (f : ℕ → A) (l : List A) (at : ℕ) (now : List A) (j : ℕ) → Filled n f l at now j → length now ≡ length l
+  filled-length n f l at now j t = sets-length l (tab j f) now at (t .so-far)
+
+  pub filled-next : (n : ℕ) (f : ℕ → A) (l : List A) (at : ℕ) (now : List A) (j place : ℕ) (a : A) → j < n → Filled n f l at now j
+      → place ≡ at + j → a ≡ f j → Filled n f l at (set now place a) (j + 1)
+  filled-next n f l at now j place a h t ep ea =
+      record {
+        inside = omega arith;
+        so-far =
+            ap (λ (s : List A). set s place a) (t .so-far)
+            ∙ ap₂ (λ (p : ℕ) (w : A). set (sets l at (tab j f)) p w) ep ea
+            ∙ sym (sets-then l (tab j f) (f j ∷ []) at j (length-tab j f))
+            ∙ ap (sets l at) (sym (ap (λ (k : ℕ). tab k f) (add-one j) ∙ tab-more j f));
+      }
+
+  pub filled-last : (n : ℕ) (f : ℕ → A) (l : List A) (at : ℕ) (now : List A) (j : ℕ) → n ≤ j → Filled n f l at now j → now ≡ sets l at (tab n f)
+  filled-last n f l at now j h t =
+      let e : j ≡ n = omega (arith, h, t .inside) in
+      t .so-far ∙ ap (λ (k : ℕ). sets l at (tab k f)) e
+
+  -- a loop that has stored the first j of n lists, each of w words
+  pub record Joined (n w : ℕ) (f : ℕ → List A) (l : List A) (at : ℕ) (now : List A) (j : ℕ) : Type 0 where
+    pub inside : j ≤ n
+    pub so-far : now ≡ sets l at (concat (tab j f))
+
+  pub joined-first : (n w : ℕ) (f : ℕ → List A) (l : List A) (at : ℕ) → Joined n w f l at l 0
   unfolding tab concat
-  sets-block zero w i f g z h hf hg same = absurd (not-suc-le-zero h)
-  sets-block (suc n) w zero f g z h hf hg same =
-      let rest : tab n (λ j. f (suc j)) ≡ tab n (λ j. g (suc j)) = tab-ext n (λ j. f (suc j)) (λ j. g (suc j)) (λ j k. sym (same (suc j) (suc-le-suc k) (suc-ne-zero j))) in
-      let front : length (f 0) ≡ length (g 0) = hf 0 (suc-le-suc zero-le) ∙ sym hg in
-      ap₂ (λ (l : List A) (k : ℕ). sets l k (g 0)) (append-assoc (f 0) (concat (tab n (λ j. f (suc j)))) z) (zero-mul w)
-      ∙ sets-over (f 0) (concat (tab n (λ j. f (suc j))) ++ z) (g 0) front
-      ∙ ap (λ (l : List (List A)). g 0 ++ (concat l ++ z)) rest
-      ∙ sym (append-assoc (g 0) (concat (tab n (λ j. g (suc j)))) z)
-  sets-block (suc n) w (suc i) f g z h hf hg same =
-      let place : suc i * w ≡ length (f 0) + i * w = omega (arith, hf 0 (suc-le-suc zero-le)) in
-      ap₂ (λ (l : List A) (k : ℕ). sets l k (g (suc i))) (append-assoc (f 0) (concat (tab n (λ j. f (suc j)))) z) place
-      ∙ sets-skip (f 0) (concat (tab n (λ j. f (suc j))) ++ z) (i * w) (g (suc i))
-      ∙ ap₂ (λ (a b : List A). a ++ b) (sym (same 0 (suc-le-suc zero-le) (λ e. suc-ne-zero i (sym e))))
-      (sets-block n w i (λ j. f (suc j)) (λ j. g (suc j)) z (le-of-suc-le-suc h) (λ j k. hf (suc j) (suc-le-suc k)) hg (λ j k ne. same (suc j) (suc-le-suc k) (λ e. ne (suc-inj e))))
-      ∙ sym (append-assoc (g 0) (concat (tab n (λ j. g (suc j)))) z)
+  joined-first n w f l at = record { inside = zero-le; so-far = refl }
 
-  -- equal blocks of one element
-  pub concat-replicate : (n w : ℕ) (a : A) → concat (tab n (λ i. replicate w a)) ≡ replicate (n * w) a
-  unfolding tab concat
-  concat-replicate zero w a = sym (ap (λ (k : ℕ). replicate k a) (zero-mul w))
-  concat-replicate (suc n) w a =
-      let sum : w + n * w ≡ suc n * w = omega arith in
-      ap (λ (l : List A). replicate w a ++ l) (concat-replicate n w a)
-      ∙ replicate-append-replicate w (n * w) a
-      ∙ ap (λ (k : ℕ). replicate k a) sum
+  pub joined-length : (n w : ℕ) (f : ℕ → List A) (l : List A) (at : ℕ) (now : List A) (j : ℕ) → Joined n w f l at now j → length now ≡ length l
+  joined-length n w f l at now j t = sets-length l (concat (tab j f)) now at (t .so-far)
+
+  pub joined-next : (n w : ℕ) (f : ℕ → List A) (l : List A) (at : ℕ) (now next : List A) (j place : ℕ) → ((i : ℕ) → i < n → length (f i) ≡ w) → j < n
+      → Joined n w f l at now j → place ≡ at + j * w → next ≡ sets now place (f j) → Joined n w f l at next (j + 1)
+  joined-next n w f l at now next j place lengths h t ep en =
+      record {
+        inside = omega arith;
+        so-far =
+            en
+            ∙ ap₂ (λ (s : List A) (p : ℕ). sets s p (f j)) (t .so-far) ep
+            ∙ sym (sets-then l (concat (tab j f)) (f j) at (j * w) (length-concat j w f (λ i p. lengths i (omega arith))))
+            ∙ ap (sets l at) (sym (ap (λ (k : ℕ). concat (tab k f)) (add-one j) ∙ concat-more j f));
+      }
+
+  pub joined-last : (n w : ℕ) (f : ℕ → List A) (l : List A) (at : ℕ) (now : List A) (j : ℕ) → n ≤ j → Joined n w f l at now j → now ≡ sets l at (concat (tab n f))
+  joined-last n w f l at now j h t =
+      let e : j ≡ n = omega (arith, h, t .inside) in
+      t .so-far ∙ ap (λ (k : ℕ). sets l at (concat (tab k f))) e

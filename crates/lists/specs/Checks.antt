@@ -1,6 +1,6 @@
 -- Checks in an order: an operation refuses with the number of the first check that fails.
 -- Assumes nothing.
-use Prim.Native.Nat.{ℕ}
+use Prim.Native.Nat.{ℕ, zero, suc}
 use mathlib.Core.Bool.{Bool, true, false, _&&_}
 use mathlib.Core.List.{List, [], _∷_}
 use lib.Dec.{leb}
@@ -22,3 +22,8 @@ checked refuse (c ∷ cs) answer = elim (c .passes) [ true ↦ checked refuse cs
 -- low ≤ x ≤ high
 abbrev pub within : ℕ → ℕ → ℕ → Bool
 within low high x = leb low x && leb x high
+
+-- The number that an answer of refusal gives. No refusal has the number 0, so an answer that gives it stands for none of document 01's.
+abbrev pub refusal : ℕ → ℕ
+refusal zero = 65536
+refusal (suc k) = suc k

@@ -18,11 +18,7 @@ use Rattle.members.specs.Members.{size, has, setOf}
 use Rattle.members.proofs.Masks.{has-setOf}
 use Rattle.shares.specs.Layout.{width, word, shareWords, tagWord, keyα, keyβ}
 use Rattle.pruning.specs.Pruning.{Closed, votes}
-use Rattle.reconstruction.specs.Votes.{usable, tagHolds, accepts, voteRows}
-
--- every word of member i's share is a field word
-abbrev fieldShare : ℕ → ℕ → List ℕ → ℕ → Bool
-fieldShare t d words i = all (width t d) (λ k. isFieldWord (word t d words i k))
+use Rattle.reconstruction.specs.Votes.{fieldShare, usable, tagHolds, accepts, voteRows}
 
 module _ (t d present : ℕ) (words : List ℕ) (i : ℕ) (h : i < size t) where
   has-usable : has (usable t d present words) i ≡ has present i && fieldShare t d words i
@@ -30,6 +26,7 @@ module _ (t d present : ℕ) (words : List ℕ) (i : ℕ) (h : i < size t) where
   has-usable = has-setOf (size t) (λ j. has present j && fieldShare t d words j) i h
 
   pub usable-intro : has present i ≡ true → ((k : ℕ) → k < width t d → word t d words i k < prime) → has (usable t d present words) i ≡ true
+  unfolding fieldShare
   usable-intro p w =
       has-usable ∙ and-intro p (all-intro (width t d) (λ k. isFieldWord (word t d words i k)) (λ k l. lt-ltb (word t d words i k) prime (w k l)))
 
@@ -37,6 +34,7 @@ module _ (t d present : ℕ) (words : List ℕ) (i : ℕ) (h : i < size t) where
   usable-present u = and-left (has present i) (fieldShare t d words i) (sym has-usable ∙ u)
 
   pub usable-words : has (usable t d present words) i ≡ true → (k : ℕ) → k < width t d → word t d words i k < prime
+  unfolding fieldShare
   usable-words u k l =
       ltb-true (word t d words i k) prime
       (all-elim (width t d) (λ k. isFieldWord (word t d words i k)) (and-right (has present i) (fieldShare t d words i) (sym has-usable ∙ u)) k l)

@@ -1,20 +1,22 @@
 -- Where the words of the shares stand, for the functions that read them.
 -- Assumes nothing.
 use mathlib.Core.Path.{_≡_, refl, sym, ap, ap₂, _∙_}
+use mathlib.Core.Bool.{Bool}
 use mathlib.Core.List.{List}
 use Prim.Native.Nat.{ℕ, suc, _+_, _-_, _*_, _≤_, _<_}
-use native.Mathlib.Nat.{mul-le-mul-right, suc-mul, add-assoc}
+use native.Mathlib.Nat.{mul-le-mul-right, suc-mul, add-assoc, le-refl}
 use native.Mathlib.Omega.{arith}
 use lib.Dec.{eqb}
 use lib.ListN.{length, getD, take, drop, length-drop}
 use lib.Seq.{ext-getD, getD-take, getD-drop, length-take-le}
-use Rattle.lists.specs.Tabulate.{tab}
-use Rattle.lists.proofs.Tabulate.{length-tab, getD-tab}
+use Rattle.lists.specs.Tabulate.{tab, all, each}
+use Rattle.lists.proofs.Tabulate.{length-tab, getD-tab, each-tab}
+use Rattle.field.specs.Field.{isFieldWord}
 use Rattle.mac.specs.Tag.{tag}
 use Rattle.members.specs.Members.{size}
 use Rattle.shares.specs.Layout.{width, word, shareWords, tagWord, keyα, keyβ}
 use Rattle.reconstruction.specs.Room.{Room}
-use Rattle.reconstruction.specs.Votes.{tagHolds}
+use Rattle.reconstruction.specs.Votes.{fieldShare, tagHolds}
 
 -- a part of d words, as the code lends it
 pub tag-part : (words : List ℕ) (d own key at v : ℕ) → v ≡ tag (getD words key 0) (getD words (key + 1) 0) (take (own + d - own) (drop own words))
@@ -24,12 +26,16 @@ tag-part words d own key at v e =
     (e ∙ ap (λ (m : ℕ). tag (getD words key 0) (getD words (key + 1) 0) (take m (drop own words))) {x = own + d - own} {y = d} (omega arith))
 
 module _ (t d n w : ℕ) (words : List ℕ) (room : Room t d n w words) where
-  -- place k of member i's share is in the buffer
-  pub place : (i k : ℕ) → i < n → k < w → i * w + k < length words
-  place i k h l =
+  -- a whole share is in the buffer
+  pub share-inside : (i : ℕ) → i < n → i * w + w ≤ length words
+  share-inside i h =
       let m : suc i * w ≤ n * w = mul-le-mul-right w h in
       let s : suc i * w ≡ i * w + w = suc-mul i w in
       omega (arith, room .long)
+
+  -- place k of member i's share is in the buffer
+  pub place : (i k : ℕ) → i < n → k < w → i * w + k < length words
+  place i k h l = omega (arith, share-inside i h)
 
   -- the places that the test of one tag reads
   pub tag-places : (i j : ℕ) → i < n → j < n
@@ -43,15 +49,29 @@ module _ (t d n w : ℕ) (words : List ℕ) (room : Room t d n w words) where
   unfolding word
   word-at i k p e = ap (λ (q : ℕ). getD words q 0) (e ∙ ap (λ (v : ℕ). i * v + k) (room .share))
 
-  -- a part of the buffer is the member's share words
+  -- m words from the beginning of a member's share
+  pub part-at : (i p m : ℕ) → i < n → p ≡ i * w → m ≤ w → take m (drop p words) ≡ tab m (word t d words i)
+  part-at i p m h e l =
+      let all-in : i * w + w ≤ length words = share-inside i h in
+      let fits : m ≤ length (drop p words) = simp length-drop (omega arith) in
+      ext-getD 0 (take m (drop p words)) (tab m (word t d words i)) (length-take-le m (drop p words) fits ∙ sym (length-tab m (word t d words i)))
+      (λ k g.
+      let k-in : k < m = omega (arith, g, length-take-le m (drop p words) fits) in
+      getD-take m (drop p words) k 0 k-in ∙ getD-drop p words k 0 ∙ word-at i k (p + k) (ap (λ (q : ℕ). q + k) e) ∙ sym (getD-tab m (word t d words i) k 0 k-in))
+
   pub words-at : (i p : ℕ) → i < n → p ≡ i * w → take d (drop p words) ≡ shareWords t d words i
   unfolding shareWords
-  words-at i p h e =
-      let fits : d ≤ length (drop p words) = simp length-drop (omega (arith, place i (d + 0) h (omega (arith, room .parts, room .twice)), room .parts)) in
-      ext-getD 0 (take d (drop p words)) (tab d (word t d words i)) (length-take-le d (drop p words) fits ∙ sym (length-tab d (word t d words i)))
-      (λ k l.
-      let m : k < d = omega (arith, l, length-take-le d (drop p words) fits) in
-      getD-take d (drop p words) k 0 m ∙ getD-drop p words k 0 ∙ word-at i k (p + k) (ap (λ (q : ℕ). q + k) e) ∙ sym (getD-tab d (word t d words i) k 0 m))
+  words-at i p h e = part-at i p d h e (omega (arith, room .parts))
+
+  -- the test of a whole share, as the code lends it
+  pub field-share-at : (i p : ℕ) (b : Bool) → i < n → p ≡ i * w → b ≡ each isFieldWord (take (p + w - p) (drop p words)) → b ≡ fieldShare t d words i
+  unfolding fieldShare
+  field-share-at i p b h e r =
+      r
+      ∙ ap (λ (m : ℕ). each isFieldWord (take m (drop p words))) {x = p + w - p} {y = w} (omega arith)
+      ∙ ap (each isFieldWord) (part-at i p w h e (le-refl w))
+      ∙ each-tab isFieldWord w (word t d words i)
+      ∙ ap (λ (m : ℕ). all m (λ k. isFieldWord (word t d words i k))) (room .share)
 
   -- the test of one tag, at the places of its words
   pub tag-at : (i j own key at : ℕ) → i < n → own ≡ i * w → key ≡ j * w + (d + n + 2 * i) → at ≡ i * w + (d + j)

@@ -22,44 +22,35 @@ module _ (t d able : ℕ) (words : List ℕ) (i : ℕ) where
   unfolding accepts
   accepts-is j u h e eu eh = ap₂ (λ (a b : Bool). a && b && tagHolds t d words i j) e (sym eu) ∙ ap (λ (b : Bool). u && b) (sym eh)
 
-  pub no-voter : (j set : ℕ) (u : Bool) → has able i ≡ true → u ≡ has able j → u ≡ false → set ≡ cond (accepts t d able words j i) (adding set j) set
-  no-voter j set u e eu en = sym (ap (λ (b : Bool). cond b (adding set j) set) (accepts-is j u (tagHolds t d words i j) e eu refl ∙ ap (λ (b : Bool). b && tagHolds t d words i j) en))
-
-  pub no-vote : (j set : ℕ) (u h : Bool) → has able i ≡ true → u ≡ has able j → u ≡ true → h ≡ tagHolds t d words i j → h ≡ false
-      → set ≡ cond (accepts t d able words j i) (adding set j) set
-  no-vote j set u h e eu ey eh en = sym (ap (λ (b : Bool). cond b (adding set j) set) (accepts-is j u h e eu eh ∙ ap₂ _&&_ ey en))
-
-  pub a-vote : (j set : ℕ) (u h : Bool) → has able i ≡ true → u ≡ has able j → u ≡ true → h ≡ tagHolds t d words i j → h ≡ true
-      → adding set j ≡ cond (accepts t d able words j i) (adding set j) set
-  a-vote j set u h e eu ey eh eo = sym (ap (λ (b : Bool). cond b (adding set j) set) (accepts-is j u h e eu eh ∙ ap₂ _&&_ ey eo))
+  -- so member j's vote is by two tests
+  pub by-tests : (j set s : ℕ) → has able i ≡ true → s ≡ cond (has able j && tagHolds t d words i j) (adding set j) set
+      → s ≡ cond (accepts t d able words j i) (adding set j) set
+  by-tests j set s e r = r ∙ ap (λ (b : Bool). cond b (adding set j) set) (sym (accepts-is j (has able j) (tagHolds t d words i j) e refl refl))
 
   -- nobody accepts a member that is not usable
   pub empty-row : has able i ≡ false → 0 ≡ setOf (size t) (λ j. accepts t d able words j i)
   unfolding accepts
   empty-row en = sym (setOf-none (size t) (λ j. accepts t d able words j i) (λ j l. ap (λ (b : Bool). b && has able j && tagHolds t d words i j) en))
 
-  -- the row of the members below j
-  pub record Row (n set j : ℕ) : Type 0 where
-    pub inside : j ≤ n
-    pub so-far : set ≡ setOf j (λ k. accepts t d able words k i)
+-- a loop that takes the members that pass a test
+pub record Taken (p : ℕ → Bool) (n set i : ℕ) : Type 0 where
+  pub inside : i ≤ n
+  pub so-far : set ≡ setOf i p
 
-  pub row-first : (n : ℕ) → Row n 0 0
+module _ (p : ℕ → Bool) (n : ℕ) where
+  pub taken-first : Taken p n 0 0
   unfolding setOf
-  row-first n = record { inside = zero-le; so-far = refl }
+  taken-first = record { inside = zero-le; so-far = refl }
 
-  pub row-next : (n set j s : ℕ) → j < n → n ≤ 31 → Row n set j → s ≡ cond (accepts t d able words j i) (adding set j) set → Row n s (j + 1)
-  row-next n set j s h l r e =
+  pub taken-next : (set i s : ℕ) → i < n → n ≤ 31 → Taken p n set i → s ≡ cond (p i) (adding set i) set → Taken p n s (i + 1)
+  taken-next set i s h l r e =
       record {
         inside = omega arith;
-        so-far =
-            e
-            ∙ ap (λ (m : ℕ). cond (accepts t d able words j i) (adding m j) m) (r .so-far)
-            ∙ setOf-step j (λ k. accepts t d able words k i) (accepts t d able words j i) (omega arith) refl;
+        so-far = e ∙ ap (λ (m : ℕ). cond (p i) (adding m i) m) (r .so-far) ∙ setOf-step i p (p i) (omega arith) refl;
       }
 
-  pub row-last : (n set j : ℕ) → n ≤ j → n ≡ size t → Row n set j → set ≡ setOf (size t) (λ k. accepts t d able words k i)
-  row-last n set j h e r =
-      r .so-far ∙ ap (λ (m : ℕ). setOf m (λ k. accepts t d able words k i)) (omega (arith, e, r .inside))
+  pub taken-last : (set i m : ℕ) → n ≤ i → n ≡ m → Taken p n set i → set ≡ setOf m p
+  taken-last set i m h e r = r .so-far ∙ ap (λ (k : ℕ). setOf k p) (omega (arith, e, r .inside))
 
 -- a row for each member
 pub rows-are : (t d able : ℕ) (words : List ℕ) (n : ℕ) (rows : List ℕ) → n ≡ size t → rows ≡ tab n (λ i. setOf (size t) (λ j. accepts t d able words j i))
@@ -85,3 +76,15 @@ votes-pruned t d able words rows h e =
 pub survivors-of : (t d able : ℕ) (words rows : List ℕ) (r : Pruned) → isThreshold t ≡ true → rows ≡ voteRows t d able words → r ≡ prune t rows
     → r .survivors ≡ survivors t (voteRows t d able words)
 survivors-of t d able words rows r h e p = ap (λ (a : Pruned). a .survivors) (p ∙ votes-pruned t d able words rows h e)
+
+-- a member is left out if one of two tests fails, and taken if both pass
+module _ (p q : Bool) (set i : ℕ) (a : Bool) (ea : a ≡ p) where
+  pub first-fails : a ≡ false → set ≡ cond (p && q) (adding set i) set
+  first-fails en = sym (ap (λ (c : Bool). cond (c && q) (adding set i) set) (sym ea ∙ en))
+
+  module _ (b : Bool) (ey : a ≡ true) (eb : b ≡ q) where
+    pub second-fails : b ≡ false → set ≡ cond (p && q) (adding set i) set
+    second-fails en = sym (ap₂ (λ (c e : Bool). cond (c && e) (adding set i) set) (sym ea ∙ ey) (sym eb ∙ en))
+
+    pub both-pass : b ≡ true → adding set i ≡ cond (p && q) (adding set i) set
+    both-pass eo = sym (ap₂ (λ (c e : Bool). cond (c && e) (adding set i) set) (sym ea ∙ ey) (sym eb ∙ eo))

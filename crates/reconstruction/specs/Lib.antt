@@ -2,4 +2,5 @@ pub mod Answer
 pub mod Examples
 pub mod Reconstruction
 pub mod Room
+pub mod Steps
 pub mod Votes

@@ -1,19 +1,63 @@
 // Reconstruction (document 01: opening): shares to the secret.
 ghost use mathlib.Core.Path.{_≡_};
-ghost use Prim.Native.Nat.{_+_, _<_, _≤_};
+ghost use Prim.Native.Nat.{suc, _+_, _<_, _≤_};
 ghost use lib.Dec.{eqb};
 ghost use lib.ListN.{length, getD, take, drop};
 ghost use Rattle.mac.specs.Tag.{tag};
-ghost use mathlib.Core.Bool.{true, cond};
-ghost use Rattle.members.specs.Members.{size, has, setOf, adding};
+ghost use mathlib.Core.Bool.{true, cond, _&&_};
+ghost use Rattle.lists.specs.Tabulate.{tab};
+ghost use Rattle.polynomial.specs.Polynomial.{value};
+ghost use Rattle.members.specs.Members.{size, ownPoints, has, setOf, adding};
+ghost use Rattle.shares.specs.Layout.{word};
+ghost use Rattle.decoding.specs.Decoding.{find};
+ghost use Rattle.reconstruction.specs.Steps.{Decodable, Worded};
 ghost use Rattle.pruning.specs.Pruning.{survivors};
 ghost use Rattle.reconstruction.specs.Room.{Room};
-ghost use Rattle.reconstruction.specs.Votes.{tagHolds, accepts, voteRows};
+ghost use Rattle.reconstruction.specs.Votes.{fieldShare, usable, tagHolds, accepts, voteRows};
 
 // Opened, with the survivors and those of them that agree; or refused with document 01's number, and with the survivors if that is 16.
 pub enum Outcome {
     Open { survivors: u32, agreeing: u32 },
     Refused { number: u16, survivors: u32 },
+}
+
+// The set, and member i if it is present and every word of its share is a field word.
+fn usable_member(
+    t: usize,
+    d: usize,
+    n: usize,
+    width: usize,
+    present: u32,
+    shares: &[u16],
+    i: usize,
+    set: u32,
+) -> u32
+    requires { ⌜ Room t d n width (now shares) ⌝ }
+    requires { ⌜ i < n ⌝ }
+    ensures { λ r. ⌜ r ≡ cond (has present i && fieldShare t d (now (shares .entry)) i) (adding set i) set ⌝ }
+{
+    if !members::has(present, i) {
+        return set;
+    }
+    let at = i * width;
+    if !field::are_field_words(&shares[at..at + width]) {
+        return set;
+    }
+    members::with(set, i)
+}
+
+// The usable members.
+fn usable_members(t: usize, d: usize, n: usize, width: usize, present: u32, shares: &[u16]) -> u32
+    requires { ⌜ Room t d n width (now shares) ⌝ }
+    ensures { λ r. ⌜ r ≡ usable t d present (now (shares .entry)) ⌝ }
+{
+    let mut set: u32 = 0;
+    let mut i = 0;
+    while i < n {
+        set = usable_member(t, d, n, width, present, shares, i, set);
+        i = i + 1;
+    }
+    set
 }
 
 // The word at `at` is the tag of the d words from `own` on, under the key at `key`.
@@ -123,4 +167,72 @@ fn surviving(
         pruning::Survivors::Left(set) => set,
         pruning::Survivors::Refused(_) => 0,
     }
+}
+
+// The members' words at place k.
+fn column(t: usize, d: usize, n: usize, width: usize, shares: &[u16], k: usize, values: &mut [u16])
+    requires { ⌜ Room t d n width (now shares) ⌝ }
+    requires { ⌜ (k < d) × (length (now values) ≡ n) ⌝ }
+    ensures { λ r. ⌜ now (values .exit) ≡ tab n (λ i. word t d (now (shares .entry)) i k) ⌝ }
+{
+    let mut i = 0;
+    while i < values.len() {
+        values[i] = shares[i * width + k];
+        i = i + 1;
+    }
+}
+
+// The set, and member i if it is in `agreed` and its value is that of f.
+fn meets(values: &[u16], f: &[u16], agreed: u32, i: usize, set: u32) -> u32
+    requires { ⌜ (i < length (now values)) × (length (now values) ≤ 31) ⌝ }
+    ensures { λ r. ⌜ r ≡ cond (has agreed i && eqb (value (now (f .entry)) (i + 1)) (getD (now (values .entry)) i 0)) (adding set i) set ⌝ }
+{
+    if !members::has(agreed, i) {
+        return set;
+    }
+    if polynomial::evaluate(f, (i + 1) as u16) != values[i] {
+        return set;
+    }
+    members::with(set, i)
+}
+
+// The members of `agreed` whose value is that of f.
+fn meeting_members(values: &[u16], f: &[u16], agreed: u32) -> u32
+    requires { ⌜ length (now values) ≤ 31 ⌝ }
+    ensures { λ r. ⌜ r ≡ setOf (length (now (values .entry))) (λ i. has agreed i && eqb (value (now (f .entry)) (i + 1)) (getD (now (values .entry)) i 0)) ⌝ }
+{
+    let mut set: u32 = 0;
+    let mut i = 0;
+    while i < values.len() {
+        set = meets(values, f, agreed, i, set);
+        i = i + 1;
+    }
+    set
+}
+
+// Word k: its value is stored, and those of `agreed` that meet its polynomial are left; nobody, if it has none.
+fn open_word(
+    t: usize,
+    d: usize,
+    n: usize,
+    width: usize,
+    shares: &[u16],
+    survived: u32,
+    agreed: u32,
+    k: usize,
+    values: &mut [u16],
+    f: &mut [u16],
+    secret: &mut [u16],
+) -> u32
+    requires { ⌜ Room t d n width (now shares) ⌝ }
+    requires { ⌜ Decodable t d (now shares) survived ⌝ }
+    requires { ⌜ (k < d) × (length (now values) ≡ n) × (length (now f) ≡ suc t) × (length (now secret) ≡ d) ⌝ }
+    ensures { λ r. ⌜ Worded (ownPoints t) t (λ i. word t d (now (shares .entry)) i k) agreed k (now (secret .entry)) (find (ownPoints t) t 1 (λ i j. word t d (now (shares .entry)) i k) survived) r (now (secret .exit)) ⌝ }
+{
+    column(t, d, n, width, shares, k, values);
+    let decoding::Outcome::Found = decoding::decode_near(t, values, survived, agreed, f) else {
+        return 0;
+    };
+    secret[k] = polynomial::evaluate(f, 0);
+    meeting_members(values, f, agreed)
 }

@@ -59,7 +59,7 @@ shared-slice-read-if1 : tie.Need-shared-slice-read-if1 Inv-loop μ-loop
 shared-slice-read-if1 c = omega arith
 
 returns : tie.Need-returns Inv-loop μ-loop
-returns c = found _ _ (c .before .before .loop-test .taken) (c .if1 .taken) (c .before .before .before .loop .inv)
+returns c = found (c .before .before .before .before .args .words .now) (c .before .before .before .loop .i) (c .before .before .loop-test .taken) (omega arith) (c .before .before .before .loop .inv)
 
 add-i : tie.Need-add-i Inv-loop μ-loop
 add-i c = omega arith
@@ -68,7 +68,7 @@ loop-less : tie.Need-loop-less Inv-loop μ-loop
 loop-less c = omega arith
 
 loop-again : tie.Need-loop-again Inv-loop μ-loop
-loop-again c = next _ _ (c .before .before .loop-test .taken) (c .if1 .left) (c .before .before .before .loop .inv)
+loop-again c = next (c .before .before .before .before .args .words .now) (c .before .before .before .loop .i) (c .before .before .loop-test .taken) (omega arith) (c .before .before .before .loop .inv)
 
 returns-2 : tie.Need-returns-2 Inv-loop μ-loop
 returns-2 c = last _ _ (c .loop-test .left) (c .before .loop .inv)

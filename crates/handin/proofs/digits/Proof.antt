@@ -6,7 +6,7 @@ use Prim.Native.Nat.{_≤_, _-_}
 use native.Mathlib.Omega.{arith}
 use borrow.Author.Tests.{not-true, not-false}
 use lib.ListN.{length, drop}
-use Rattle.handin.specs.Answers.{digitsFrom}
+use Rattle.handin.specs.Steps.{digitsFrom}
 use Rattle.handin.proofs.Numerals.{digits-bad, digits-step, digits-over, digits-done, digit-low}
 use Rattle.handin.proofs.digits.Statement.{statement}
 use Rattle.handin.proofs.digits.Tie as tie

@@ -4,7 +4,7 @@ use mathlib.Core.Path.{sym, ap, _∙_}
 use Prim.Native.Nat.{_-_}
 use native.Mathlib.Omega.{arith}
 use lib.ListN.{length, length-set}
-use Rattle.lists.proofs.Fill.{Filled, filled-first, filled-next, filled-last}
+use Rattle.lists.proofs.Tables.{Filled, filled-first, filled-next, filled-last}
 use Rattle.members.specs.Members.{setOf, size}
 use Rattle.reconstruction.specs.Votes.{accepts}
 use Rattle.reconstruction.proofs.Voting.{rows-are}
