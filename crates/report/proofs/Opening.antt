@@ -1,27 +1,21 @@
--- What opening's answer prints. A refusal has another number than 0, since an answer with the number 0 has agreeing members.
+-- What opening's answer prints.
 -- Assumes nothing.
 use mathlib.Core.Path.{_≡_, refl, sym, ap, _∙_}
-use mathlib.Core.Logic.{_⊎_, inl, inr}
 use mathlib.Core.Bool.{Bool, true, false, not}
 use mathlib.Core.Option.{Option, none, some}
 use mathlib.Core.List.{List, [], _∷_, _++_}
-use Prim.Native.Nat.{ℕ, _*_, _≤_, _<_}
+use Prim.Native.Nat.{ℕ, zero, suc, _*_, _≤_, zero-le}
 use native.Mathlib.Nat.{suc-ne-zero}
 use native.Mathlib.Omega.{arith}
-use borrow.Author.Tests.{ne-eqb, ltb-true}
-use lib.Dec.{leb, ltb, eqb}
+use borrow.Author.Tests.{ne-eqb}
+use lib.Dec.{leb, eqb}
 use lib.ListN.{length}
-use Rattle.lists.specs.Checks.{Check, _unless_, checked}
-use Rattle.lists.specs.Tabulate.{tab, count, each, concat}
-use Rattle.lists.proofs.Bools.{test, and-left, and-right}
-use Rattle.lists.proofs.Count.{count-none}
+use Rattle.lists.specs.Checks.{_unless_}
+use Rattle.lists.specs.Tabulate.{tab, each, concat}
 use Rattle.members.specs.Members.{isThreshold, size, ownPoints, isSet, card}
-use Rattle.members.proofs.Masks.{has-zero}
 use Rattle.shares.specs.Layout.{isLength, width, word}
 use Rattle.pruning.specs.Pruning.{survivors}
-use Rattle.decoding.specs.Decoding.{agreeing, need, nth, find}
-use Rattle.decoding.proofs.Unique.{need-least}
-use Rattle.decoding.proofs.Search.{find-found}
+use Rattle.decoding.specs.Decoding.{find}
 use Rattle.reconstruction.specs.Votes.{usable, voteRows}
 use Rattle.reconstruction.specs.Reconstruction.{Opened, unopened, isQuorum, required, openedFrom, finish, reconstruct}
 use Rattle.reconstruction.specs.Answer.{answerOf}
@@ -29,60 +23,33 @@ use Rattle.reconstruction.specs.declared.Outcome.{Outcome}
 use Rattle.reconstruction.specs.declared.Outcome.the-variants.{Open, Refused}
 use Rattle.report.specs.Report.{line, wordLine, printOpened}
 use Rattle.report.specs.Writing.{wordLines, opening}
+use Rattle.report.proofs.Numbers.{number-fits}
 
--- an answer with the number 0 has passed checks whose refusals have other numbers
-pub all-passed : {A : Type 0} (refuse : ℕ → A) (number : A → ℕ) → ((k : ℕ) → number (refuse k) ≡ k)
-    → (cs : List Check) → each (λ c. ltb 0 (c .number)) cs ≡ true → (answer : A) → number (checked refuse cs answer) ≡ 0
-    → checked refuse cs answer ≡ answer
-unfolding each
-all-passed refuse number tells [] above answer h = refl
-all-passed {A = A} refuse number tells (c ∷ cs) above answer h =
-    at (c .passes) (ltb-true 0 (c .number) (and-left _ _ above)) (all-passed refuse number tells cs (and-right (ltb 0 (c .number)) _ above) answer) h
-  where
-    at : (b : Bool) → 0 < c .number → (number (checked refuse cs answer) ≡ 0 → checked refuse cs answer ≡ answer)
-        → number (elim b [ true ↦ checked refuse cs answer | false ↦ refuse (c .number) ]) ≡ 0
-        → elim b [ true ↦ checked refuse cs answer | false ↦ refuse (c .number) ] ≡ answer
-    at true low rest z = rest z
-    at false low rest z = absurd (omega (arith, tells (c .number)))
-
-card-zero : (n : ℕ) → card n 0 ≡ 0
-unfolding card
-card-zero n = count-none n _ (λ i h. has-zero i)
-
-module _ (xs : List ℕ) (t d : ℕ) (y : ℕ → ℕ → ℕ) (s : ℕ) where
-  some-agree : (o : Option (List (List ℕ))) → find xs t d y s ≡ o → openedFrom xs t d y s o .number ≡ 0 → openedFrom xs t d y s o .agreeing ≡ 0 → ⊥
-  unfolding openedFrom unopened
-  some-agree none e number none-agree = absurd (suc-ne-zero _ number)
-  some-agree (some fs) e number none-agree =
-      let enough : need t (card (size t) s) ≤ card (size t) (agreeing xs t d y s (nth fs)) = find-found xs t d y s fs e .fits .enough in
-      let nobody : card (size t) (agreeing xs t d y s (nth fs)) ≡ 0 = ap (card (size t)) none-agree ∙ card-zero (size t) in
-      omega (arith, enough, nobody, need-least t (card (size t) s))
+from-fits : (xs : List ℕ) (t d : ℕ) (y : ℕ → ℕ → ℕ) (s : ℕ) (o : Option (List (List ℕ))) → openedFrom xs t d y s o .number ≤ 65535
+unfolding openedFrom unopened
+from-fits xs t d y s none = omega arith
+from-fits xs t d y s (some fs) = zero-le
 
 module _ (t d present quorum : ℕ) (words : List ℕ) where
-  opened-some : reconstruct t d present quorum words .number ≡ 0 → reconstruct t d present quorum words .agreeing ≡ 0 → ⊥
+  opened-fits : reconstruct t d present quorum words .number ≤ 65535
   unfolding reconstruct finish unopened each
-  opened-some number none-agree =
+  opened-fits =
       let able : ℕ = usable t d present words in
       let rows : List ℕ = voteRows t d able words in
       let survived : ℕ = survivors t rows in
       let y : ℕ → ℕ → ℕ = word t d words in
       let found : Opened = openedFrom (ownPoints t) t d y survived (find (ownPoints t) t d y survived) in
-      let p : reconstruct t d present quorum words ≡ finish (ownPoints t) t d quorum able rows y =
-      all-passed (unopened d 0) (λ a. a .number) (λ k. refl)
+      number-fits (unopened d 0) (λ a. a .number) (λ k. refl)
       (1 unless isThreshold t
       ∷ 2 unless isLength d
       ∷ 11 unless eqb (length words) (size t * width t d)
       ∷ 12 unless isSet (size t) present
       ∷ 13 unless isQuorum t quorum
       ∷ [])
-      refl (finish (ownPoints t) t d quorum able rows y) number in
-      let q : finish (ownPoints t) t d quorum able rows y ≡ found =
-      all-passed (unopened d 0) (λ a. a .number) (λ k. refl)
+      refl (finish (ownPoints t) t d quorum able rows y)
+      (number-fits (unopened d 0) (λ a. a .number) (λ k. refl)
       (14 unless leb (required t quorum) (card (size t) able) ∷ 15 unless not (eqb survived 0) ∷ [])
-      refl found (ap (λ (a : Opened). a .number) (sym p) ∙ number) in
-      let e : reconstruct t d present quorum words ≡ found = p ∙ q in
-      some-agree (ownPoints t) t d y survived (find (ownPoints t) t d y survived) refl (ap (λ (a : Opened). a .number) (sym e) ∙ number)
-      (ap (λ (a : Opened). a .agreeing) (sym e) ∙ none-agree)
+      refl found (from-fits (ownPoints t) t d y survived (find (ownPoints t) t d y survived)))
 
   module _ (secret : List ℕ) {r : Outcome} (answers : answerOf r secret ≡ reconstruct t d present quorum words) where
     pub prints-open : (survived agreed : ℕ) → r ≡ Open survived agreed → length secret ≡ d
@@ -92,10 +59,12 @@ module _ (t d present quorum : ℕ) (words : List ℕ) where
         ap (λ (n : ℕ). line "OPEN" (survived ∷ agreed ∷ []) ++ concat (tab n (wordLine secret))) long
         ∙ ap (printOpened d) (ap (λ (o : Outcome). answerOf o secret) (sym e) ∙ answers)
 
+    answered : (number survived : ℕ) → r ≡ Refused number survived → answerOf (Refused number survived) secret ≡ reconstruct t d present quorum words
+    answered number survived e = ap (λ (o : Outcome). answerOf o secret) (sym e) ∙ answers
+
     pub prints-refused : (number survived : ℕ) → r ≡ Refused number survived → line "REFUSED" (number ∷ survived ∷ []) ≡ opening t d present quorum words
     unfolding opening printOpened
-    prints-refused number survived e =
-        let a : answerOf (Refused number survived) secret ≡ reconstruct t d present quorum words = ap (λ (o : Outcome). answerOf o secret) (sym e) ∙ answers in
-        let other : number ≡ 0 → ⊥ = λ z. opened-some (ap (λ (o : Opened). o .number) (sym a) ∙ z) (ap (λ (o : Opened). o .agreeing) (sym a)) in
-        sym (ap (λ (b : Bool). elim b [ true ↦ line "OPEN" (survived ∷ 0 ∷ []) ++ concat (tab d (wordLine secret)) | false ↦ line "REFUSED" (number ∷ survived ∷ []) ]) (ne-eqb number 0 other))
-        ∙ ap (printOpened d) a
+    prints-refused zero survived e = absurd (omega (arith, opened-fits, ap (λ (o : Opened). o .number) (answered 0 survived e)))
+    prints-refused (suc k) survived e =
+        sym (ap (λ (b : Bool). elim b [ true ↦ line "OPEN" (survived ∷ 0 ∷ []) ++ concat (tab d (wordLine secret)) | false ↦ line "REFUSED" (suc k ∷ survived ∷ []) ]) (ne-eqb (suc k) 0 (suc-ne-zero k)))
+        ∙ ap (printOpened d) (answered (suc k) survived e)
