@@ -264,7 +264,7 @@ fn agreeing(t: usize, f: &[u16], values: &[u16], set: u32) -> usize
 }
 
 // How many of s members have to agree.
-fn need(t: usize, s: usize) -> usize
+pub fn need(t: usize, s: usize) -> usize
     requires { ⌜ (t ≤ 15) × (t < s) × (s ≤ 32) ⌝ }
     ensures { λ r. ⌜ r ≡ need t s ⌝ }
 {

@@ -10,6 +10,7 @@ use native.Mathlib.Nat.{le-trans, le-of-eq, not-suc-le-zero, suc-ne-zero, suc-in
 use native.Mathlib.Numerals.{add-one}
 use native.Mathlib.Omega.{arith}
 use lib.Dec.{eqb, leb}
+use lib.Pow.{pow-pos}
 use lib.ListN.{length, getD, take, set, length-set}
 use lib.Seq.{take-suc-set, take-all}
 use borrow.Author.Tests.{le-leb}
@@ -21,15 +22,20 @@ use Rattle.polynomial.specs.Polynomial.{value}
 use Rattle.polynomial.proofs.Roots.{Distinct}
 use Rattle.field.proofs.Congruence.{same-eq}
 use Rattle.polynomial.specs.Polynomial.{eval}
-use Rattle.members.specs.Members.{size, has, setOf, card}
-use Rattle.members.proofs.Masks.{has-setOf, has-zero, setOf-ext, setOf-has, card-setOf}
+use Rattle.members.specs.Members.{size, ownPoints, has, setOf, card}
+use Rattle.shares.specs.Layout.{word}
+use Rattle.members.proofs.Masks.{has-setOf, has-zero, setOf-lt, setOf-ext, setOf-has, card-setOf}
 use Rattle.decoding.specs.Decoding.{surplus, need, agreeing, nth, find}
+use Rattle.decoding.proofs.Answers.{card-32}
 use Rattle.decoding.proofs.Apart.{too-few}
+use Rattle.decoding.proofs.Points.{own-distinct, length-own}
+use Rattle.decoding.proofs.Refusals.{small}
 use Rattle.decoding.proofs.Search.{Found, find-found}
 use Rattle.decoding.proofs.Unique.{agrees, agreeing-same, need-least}
 use Rattle.decoding.proofs.Words.{wordAt, no-word, by-words}
 use Rattle.reconstruction.specs.Reconstruction.{atZero}
-use Rattle.reconstruction.specs.Steps.{meeting, narrowed, storedAt, Worded, agreedOf, Finished}
+use Rattle.reconstruction.specs.Room.{Room}
+use Rattle.reconstruction.specs.Steps.{Decodable, meeting, narrowed, storedAt, Worded, agreedOf, Finished}
 
 -- enough of a set are not more than all
 pub need-all : (t s : ℕ) → suc t ≤ s → need t s ≤ s
@@ -91,15 +97,16 @@ module _ (xs : List ℕ) (distinct : Distinct xs) (t : ℕ) (long : length xs �
     unfolding narrowed polyOf meeting
     with-poly fs e =
         let found : Found xs t 1 (wordAt y k) s fs = find-found xs t 1 (wordAt y k) s fs e in
-        let p : poly k ≡ nth fs 0 = ap polyOf e in
-        (e ∙ ap some (single fs (found .places) ∙ ap (λ (f : List ℕ). f ∷ []) (sym p)),
-        worded .members
-        ∙ ap (narrowed xs t (λ i. y i k) agreed) e
-        ∙ setOf-ext (size t) (λ i. has agreed i && eqb (value (nth fs 0) (getD xs i 0)) (y i k)) (meetsAll (suc k))
-        (λ i l.
-        ap₂ (λ (b : Bool) (f : List ℕ). b && eqb (value f (getD xs i 0)) (y i k)) (ap (λ (m : ℕ). has m i) (going .members) ∙ has-setOf (size t) (meetsAll k) i l) (sym p)
-        ∙ join (has s i) (all k (λ j. eqb (value (poly j) (getD xs i 0)) (y i j))) (eqb (value (poly k) (getD xs i 0)) (y i k))
-        ∙ ap (λ (b : Bool). has s i && b) (sym (all-last k (λ j. eqb (value (poly j) (getD xs i 0)) (y i j))))))
+        let p : poly k ≡ nth fs 0 = ap polyOf e in (
+          e ∙ ap some (single fs (found .places) ∙ ap (λ (f : List ℕ). f ∷ []) (sym p)),
+          worded .members
+              ∙ ap (narrowed xs t (λ i. y i k) agreed) e
+              ∙ setOf-ext (size t) (λ i. has agreed i && eqb (value (nth fs 0) (getD xs i 0)) (y i k)) (meetsAll (suc k))
+              (λ i l.
+              ap₂ (λ (b : Bool) (f : List ℕ). b && eqb (value f (getD xs i 0)) (y i k)) (ap (λ (m : ℕ). has m i) (going .members) ∙ has-setOf (size t) (meetsAll k) i l) (sym p)
+              ∙ join (has s i) (all k (λ j. eqb (value (poly j) (getD xs i 0)) (y i j))) (eqb (value (poly k) (getD xs i 0)) (y i k))
+              ∙ ap (λ (b : Bool). has s i && b) (sym (all-last k (λ j. eqb (value (poly j) (getD xs i 0)) (y i j))))),
+        )
       where
         join : (a b c : Bool) → a && b && c ≡ a && (b && c)
         join true b c = refl
@@ -153,10 +160,10 @@ module _ (xs : List ℕ) (distinct : Distinct xs) (t : ℕ) (long : length xs �
               members = r .1;
               many = enough;
               so-far =
-                ap (take (suc k)) stored
-                ∙ take-suc-set secret k v (subst (λ (m : ℕ). k < m) (sym (going .length-secret)) more)
-                ∙ ap₂ (λ (l : List ℕ) (f : List ℕ). l ++ (value f 0 ∷ [])) (going .so-far) p
-                ∙ sym (tab-more k (λ j. value (poly j) 0));
+                  ap (take (suc k)) stored
+                  ∙ take-suc-set secret k v (subst (λ (m : ℕ). k < m) (sym (going .length-secret)) more)
+                  ∙ ap₂ (λ (l : List ℕ) (f : List ℕ). l ++ (value f 0 ∷ [])) (going .so-far) p
+                  ∙ sym (tab-more k (λ j. value (poly j) 0));
             }
 
   -- all words are done
@@ -171,13 +178,72 @@ module _ (xs : List ℕ) (distinct : Distinct xs) (t : ℕ) (long : length xs �
       (le-leb (need t (card (size t) s)) (card (size t) (agreeing xs t d y s poly)) (le-trans (g .many) (le-of-eq (ap (card (size t)) (g .members))))) in
       record {
         members =
-          g .members
-          ∙ agreeing-same xs t d y s poly (nth (tab d poly)) (λ j l z. same-eq (ap (λ (f : List ℕ). eval f z) (sym (getD-tab d poly j [] l))))
-          ∙ sym (ap (agreedOf xs t d y s) found);
+            g .members
+            ∙ agreeing-same xs t d y s poly (nth (tab d poly)) (λ j l z. same-eq (ap (λ (f : List ℕ). eval f z) (sym (getD-tab d poly j [] l))))
+            ∙ sym (ap (agreedOf xs t d y s) found);
         words = λ fs e.
-          let same : tab d poly ≡ fs = Option·some-injective (tab d poly) fs (sym found ∙ e) in
-          sym (take-all d secret (le-of-eq (g .length-secret)))
-          ∙ g .so-far
-          ∙ tab-ext d (λ j. value (poly j) 0) (λ j. value (nth fs j) 0)
-          (λ j l. ap (λ (f : List ℕ). value f 0) (sym (getD-tab d poly j [] l) ∙ ap (λ (l : List (List ℕ)). nth l j) same));
+            let same : tab d poly ≡ fs = Option·some-injective (tab d poly) fs (sym found ∙ e) in
+            sym (take-all d secret (le-of-eq (g .length-secret)))
+            ∙ g .so-far
+            ∙ tab-ext d (λ j. value (poly j) 0) (λ j. value (nth fs j) 0)
+            (λ j l. ap (λ (f : List ℕ). value f 0) (sym (getD-tab d poly j [] l) ∙ ap (λ (l : List (List ℕ)). nth l j) same));
       }
+
+narrowed-lt : (xs : List ℕ) (t : ℕ) (y : ℕ → ℕ) (agreed : ℕ) (o : Option (List (List ℕ))) → narrowed xs t y agreed o < 2 ^ size t
+unfolding narrowed meeting
+narrowed-lt xs t y agreed none = pow-pos (size t)
+narrowed-lt xs t y agreed (some fs) = setOf-lt (size t) (λ i. has agreed i && eqb (value (nth fs 0) (getD xs i 0)) (y i))
+
+-- The same at the members' own points, with the buffers of the loop.
+pub record Opening (t d n : ℕ) (words : List ℕ) (s : ℕ) (values f secret : List ℕ) (agreed k : ℕ) : Type 0 where
+  pub values-long : length values ≡ n
+  pub f-long : length f ≡ suc t
+  pub secret-long : length secret ≡ d
+  pub inside : k ≤ d
+  pub going : (low : t ≤ 15) → Going (ownPoints t) (own-distinct t low) t (length-own t) d (word t d words) s agreed secret k
+
+module _ (t d n w : ℕ) (words : List ℕ) (room : Room t d n w words) (s : ℕ) (dec : Decodable t d words s) where
+  low : t ≤ 15
+  low = small t (room .threshold)
+
+  pub opening-first : (values f secret : List ℕ) → length values ≡ n → length f ≡ suc t → length secret ≡ d → Opening t d n words s values f secret s 0
+  opening-first values f secret ev ef es =
+      record {
+        values-long = ev;
+        f-long = ef;
+        secret-long = es;
+        inside = zero-le;
+        going = λ l. going-first (ownPoints t) (own-distinct t l) t (length-own t) d (word t d words) s secret (dec .below) (dec .enough) es;
+      }
+
+  module _ (values f secret : List ℕ) (agreed k : ℕ) (o : Opening t d n words s values f secret agreed k) where
+    module _ (more : k < d) (left : ℕ) (after : List ℕ)
+        (worded : Worded (ownPoints t) t (λ i. word t d words i k) agreed k secret (find (ownPoints t) t 1 (λ i j. word t d words i k) s) left after)
+        (enough c : ℕ) (ee : enough ≡ need t (card (size t) s)) (ec : c ≡ card 32 left) where
+      counted : c ≡ card (size t) left
+      counted =
+          ec
+          ∙ card-32 t left low
+          (subst (λ (m : ℕ). m < 2 ^ size t) (sym (worded .members))
+          (narrowed-lt (ownPoints t) t (λ i. word t d words i k) agreed (find (ownPoints t) t 1 (λ i j. word t d words i k) s)))
+
+      pub opening-stops : (now : List ℕ) → c < enough → Finished (ownPoints t) t d (word t d words) s (find (ownPoints t) t d (word t d words) s) 0 now
+      opening-stops now few =
+          going-stops (ownPoints t) (own-distinct t low) t (length-own t) d (word t d words) s agreed secret k (o .going low) more left after worded now
+          (subst (λ (m : ℕ). m < need t (card (size t) s)) counted (subst (λ (m : ℕ). c < m) ee few))
+
+      pub opening-next : (values′ f′ : List ℕ) → length values′ ≡ length values → length f′ ≡ length f → length after ≡ length secret → enough ≤ c
+          → Opening t d n words s values′ f′ after left (k + 1)
+      opening-next values′ f′ ev ef es many =
+          record {
+            values-long = ev ∙ o .values-long;
+            f-long = ef ∙ o .f-long;
+            secret-long = es ∙ o .secret-long;
+            inside = omega arith;
+            going = λ l.
+                going-next (ownPoints t) (own-distinct t l) t (length-own t) d (word t d words) s agreed secret k (o .going l) more left after worded
+                (subst (λ (m : ℕ). need t (card (size t) s) ≤ m) counted (subst (λ (m : ℕ). m ≤ c) ee many));
+          }
+
+    pub opening-last : d ≤ k → Finished (ownPoints t) t d (word t d words) s (find (ownPoints t) t d (word t d words) s) agreed secret
+    opening-last h = going-last (ownPoints t) (own-distinct t low) t (length-own t) d (word t d words) s agreed secret k h (o .going low)

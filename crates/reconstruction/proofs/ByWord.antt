@@ -99,12 +99,12 @@ module _ (t d n w : ℕ) (words : List ℕ) (room : Room t d n w words) (s : ℕ
           let fs : List (List ℕ) = r .0 in
           record {
             members =
-              el0
-              ∙ ap (λ (m : ℕ). setOf m (λ i. has agreed i && eqb (value f (i + 1)) (getD values i 0))) as-many
-              ∙ setOf-ext (size t) (λ i. has agreed i && eqb (value f (i + 1)) (getD values i 0)) (λ i. has agreed i && eqb (value (nth fs 0) (getD (ownPoints t) i 0)) (theWord i))
-              (λ i l. ap (λ (b : Bool). has agreed i && b)
-              (ap₂ eqb (ap₂ value (r .2) (add-one i ∙ sym (own-point t i l))) (value-at i l)))
-              ∙ sym (ap (narrowed (ownPoints t) t theWord agreed) (r .1));
+                el0
+                ∙ ap (λ (m : ℕ). setOf m (λ i. has agreed i && eqb (value f (i + 1)) (getD values i 0))) as-many
+                ∙ setOf-ext (size t) (λ i. has agreed i && eqb (value f (i + 1)) (getD values i 0)) (λ i. has agreed i && eqb (value (nth fs 0) (getD (ownPoints t) i 0)) (theWord i))
+                (λ i l. ap (λ (b : Bool). has agreed i && b)
+                (ap₂ eqb (ap₂ value (r .2) (add-one i ∙ sym (own-point t i l))) (value-at i l)))
+                ∙ sym (ap (narrowed (ownPoints t) t theWord agreed) (r .1));
             store = ap (set secret k) (ev0 ∙ ap (λ (g : List ℕ). value g 0) (r .2)) ∙ sym (ap (storedAt secret k) (r .1));
           }
 
