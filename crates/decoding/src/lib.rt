@@ -6,11 +6,11 @@
 ghost use mathlib.Core.Path.{_≡_};
 ghost use mathlib.Core.Bool.{cond, _&&_, _||_, not};
 ghost use Prim.Native.Nat.{ℕ, suc, _+_, _≤_, _<_, _^_};
-ghost use lib.Dec.{eqb, leb};
+ghost use lib.Dec.{eqb};
 ghost use lib.ListN.{length, getD, replicate};
 ghost use Rattle.lists.specs.Tabulate.{all};
 ghost use Rattle.field.specs.Field.{isFieldWord};
-ghost use Rattle.members.specs.Members.{isThreshold, size, ownPoints, has, card};
+ghost use Rattle.members.specs.Members.{size, ownPoints, has, card};
 ghost use Rattle.polynomial.specs.Polynomial.{value};
 ghost use Rattle.decoding.specs.Algorithm.{raised, mixed, offBy, Advanced, firstTurn, stepped, passed, Gathered};
 ghost use Rattle.decoding.specs.Answer.{answerOf, stateOf};
@@ -176,7 +176,7 @@ fn pass(
         second: 0,
     };
     let mut i = 0;
-    while i < values.len() {
+    while i <= 2 * t {
         at = pass_member(t, values, set, i, n0, e0, n1, e1, at);
         i = i + 1;
     }
