@@ -1,2 +1,6 @@
 -- What is proved of the definitions.
+pub mod Demand2
+pub mod Demand3
 pub mod Examples
+pub mod Honest
+pub mod Instances

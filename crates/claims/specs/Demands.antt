@@ -41,33 +41,33 @@ altered t d dealt words set =
     setOf (size t) (λ i. has set i && not (all d (λ k. eqb (word t d words i k) (word t d dealt i k))))
 
 -- polynomials of degree at most t that enough members of a set agree with, by their share words; and the members that agree
-abbrev pub Fitting : ℕ → ℕ → List ℕ → ℕ → (ℕ → List ℕ) → Type 0
-Fitting t d words set f = Fits (ownPoints t) t d (word t d words) set f
+abbrev pub Fitting : List ℕ → ℕ → ℕ → List ℕ → ℕ → (ℕ → List ℕ) → Type 0
+Fitting xs t d words set f = Fits xs t d (word t d words) set f
 
-abbrev pub agreed : ℕ → ℕ → List ℕ → ℕ → (ℕ → List ℕ) → ℕ
-agreed t d words set f = agreeing (ownPoints t) t d (word t d words) set f
+abbrev pub agreed : List ℕ → ℕ → ℕ → List ℕ → ℕ → (ℕ → List ℕ) → ℕ
+agreed xs t d words set f = agreeing xs t d (word t d words) set f
 
--- what demand 3 says of the answer of opening
-pub record Sound (t d present : ℕ) (secret dealt words : List ℕ) (answer : Opened) : Type 0 where
+-- what demand 3 says of the answer of opening, where the members have the points xs
+pub record Sound (xs : List ℕ) (t d present : ℕ) (secret dealt words : List ℕ) (answer : Opened) : Type 0 where
   -- the survivors are the largest set for the votes of what is handed in, and hold every member as dealt
   pub largest : Largest t (voteRows t d (usable t d present words) words) (answer .survivors)
   pub holds : (i : ℕ) → i < size t → AsDealt t d present dealt words i → has (answer .survivors) i ≡ true
   -- opening opens, or refuses with 16, and with 16 exactly where no polynomials of degree at most t have enough survivors agreeing
   pub opens-or-16 : (answer .number ≡ 0) ⊎ (answer .number ≡ 16)
-  pub refuses-only : answer .number ≡ 16 → (f : ℕ → List ℕ) → ¬ Fitting t d words (answer .survivors) f
-  pub refuses-if : ((f : ℕ → List ℕ) → ¬ Fitting t d words (answer .survivors) f) → answer .number ≡ 16
-  pub opens-only : answer .number ≡ 0 → (f : ℕ → List ℕ) × Fitting t d words (answer .survivors) f
+  pub refuses-only : answer .number ≡ 16 → (f : ℕ → List ℕ) → ¬ Fitting xs t d words (answer .survivors) f
+  pub refuses-if : ((f : ℕ → List ℕ) → ¬ Fitting xs t d words (answer .survivors) f) → answer .number ≡ 16
+  pub opens-only : answer .number ≡ 0 → (f : ℕ → List ℕ) × Fitting xs t d words (answer .survivors) f
   -- the answer is the only one: any two choices have the same values at 0 and the same agreeing survivors, and those are the answer
   pub only :
-      (f g : ℕ → List ℕ) → Fitting t d words (answer .survivors) f
-      → Fitting t d words (answer .survivors) g
+      (f g : ℕ → List ℕ) → Fitting xs t d words (answer .survivors) f
+      → Fitting xs t d words (answer .survivors) g
       → (atZero d f ≡ atZero d g)
-      × (agreed t d words (answer .survivors) f ≡ agreed t d words (answer .survivors) g)
+      × (agreed xs t d words (answer .survivors) f ≡ agreed xs t d words (answer .survivors) g)
   pub answers :
-      (f : ℕ → List ℕ) → Fitting t d words (answer .survivors) f
+      (f : ℕ → List ℕ) → Fitting xs t d words (answer .survivors) f
       → (answer .number ≡ 0)
       × (answer .secret ≡ atZero d f)
-      × (answer .agreeing ≡ agreed t d words (answer .survivors) f)
+      × (answer .agreeing ≡ agreed xs t d words (answer .survivors) f)
   -- the dealt secret, where the survivors with altered share words are at most half the surplus
   pub dealt-secret :
       card (size t) (altered t d dealt words (answer .survivors)) ≤ surplus t (card (size t) (answer .survivors)) / 2
@@ -92,4 +92,4 @@ Demand3 =
     → HandedIn t (length secret) present quorum words
     → (honest : ℕ) → suc t ≤ card (size t) honest
     → ((i : ℕ) → i < size t → has honest i ≡ true → AsDealt t (length secret) present dealt words i)
-    → Sound t (length secret) present secret dealt words (reconstruct t (length secret) present quorum words)
+    → Sound (ownPoints t) t (length secret) present secret dealt words (reconstruct t (length secret) present quorum words)

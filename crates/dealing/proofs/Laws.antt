@@ -4,15 +4,15 @@ use mathlib.Core.Path.{_≡_, refl, sym, ap, ap₂, _∙_}
 use mathlib.Core.Bool.{Bool, true}
 use mathlib.Core.List.{List, [], _∷_, _++_, append-assoc}
 use Prim.Native.Nat.{ℕ, suc, _+_, _*_, _≤_, _<_}
-use native.Mathlib.Nat.{suc-ne-zero, mul-le-mul-left, mul-suc}
+use native.Mathlib.Nat.{suc-ne-zero}
 use native.Mathlib.Omega.{arith}
 use lib.Dec.{leb, eqb}
-use lib.ListN.{length, getD, take, drop, length-append, length-take, length-drop, List·getD-append}
+use lib.ListN.{length, getD, drop, length-append, length-take, length-drop, List·getD-append}
 use lib.Seq.{length-take-le}
 use borrow.Author.Tests.{ltb-true, lt-ltb, leb-true, le-leb, eqb-true, eq-eqb}
-use Rattle.lists.specs.Tabulate.{tab, each, concat}
+use Rattle.lists.specs.Tabulate.{tab, each}
 use Rattle.lists.specs.Checks.{_unless_, checked, Check}
-use Rattle.lists.proofs.Bools.{and-left, and-right}
+use Rattle.lists.proofs.Bools.{and-intro, and-left, and-right}
 use Rattle.lists.proofs.Every.{Every, none, more, every-map}
 use Rattle.lists.proofs.Tabulate.{length-tab, getD-tab, tab-ext}
 use Rattle.lists.proofs.Blocks.{getD-after, length-concat, getD-concat, every-append, every-tab, every-concat, every-getD, each-every, every-each}
@@ -24,7 +24,10 @@ use Rattle.mac.specs.Tag.{tag}
 use Rattle.mac.proofs.Tags.{tag-word}
 use Rattle.members.specs.Members.{isThreshold, size, ownPoints}
 use Rattle.shares.specs.Layout.{isLength, width, word, shareWords, tagWord, keyα, keyβ}
+use Rattle.dealing.specs.Steps.{keysOf}
 use Rattle.dealing.specs.Dealing.{randomLength, polynomial, dealtα, dealtβ, dealtWords, dealtTag, dealtShare, dealtShares, Dealt, deal}
+use Rattle.dealing.proofs.Places.{coefficients-inside}
+use Rattle.dealing.proofs.Refusals.{refusal, dealt}
 
 -- The polynomials: t + 1 coefficients, and the secret word at 0.
 
@@ -32,19 +35,16 @@ pub polynomial-degree : (t : ℕ) (secret random : List ℕ) (k : ℕ) → lengt
 unfolding polynomial
 polynomial-degree t secret random k = omega (arith, length-take t (drop (t * k) random))
 
--- word k's coefficients are among the random words
-pub coefficients-inside : (t d k : ℕ) (random : List ℕ) → length random ≡ randomLength t d → k < d → t * k + t ≤ length random
-unfolding randomLength
-coefficients-inside t d k random e h =
-    let m : t * suc k ≤ t * d = mul-le-mul-left t h in
-    omega (arith, m, mul-suc t k, e)
-
 pub polynomial-length : (t : ℕ) (secret random : List ℕ) (k : ℕ) → length random ≡ randomLength t (length secret) → k < length secret
     → length (polynomial t secret random k) ≡ suc t
 unfolding polynomial
 polynomial-length t secret random k e h =
-    let m : t * k + t ≤ length random = coefficients-inside t (length secret) k random e h in
+    let m : t * k + t ≤ length random = coefficients-inside t (length secret) k (length random) e h in
     ap suc (length-take-le t (drop (t * k) random) (simp length-drop (omega arith)))
+
+pub polynomial-constant : (t : ℕ) (secret random : List ℕ) (k : ℕ) → getD (polynomial t secret random k) 0 0 ≡ getD secret k 0
+unfolding polynomial
+polynomial-constant t secret random k = refl
 
 pub polynomial-zero : (t : ℕ) (secret random : List ℕ) (k : ℕ) → getD secret k 0 < prime → value (polynomial t secret random k) 0 ≡ getD secret k 0
 unfolding polynomial value eval
@@ -52,12 +52,8 @@ polynomial-zero t secret random k h = omega (arith, h)
 
 -- Where each word stands.
 
--- key(i,1) .. key(i,n)
-unfoldable pub dealtKeys : ℕ → ℕ → List ℕ → ℕ → List ℕ
-dealtKeys t d random i = concat (tab (size t) (λ j. dealtα t d random i j ∷ dealtβ t d random i j ∷ []))
-
-pub length-keys : (t d : ℕ) (random : List ℕ) (i : ℕ) → length (dealtKeys t d random i) ≡ size t * 2
-unfolding dealtKeys
+pub length-keys : (t d : ℕ) (random : List ℕ) (i : ℕ) → length (keysOf t d random i) ≡ size t * 2
+unfolding keysOf
 length-keys t d random i = length-concat (size t) 2 (λ j. dealtα t d random i j ∷ dealtβ t d random i j ∷ []) (λ j h. refl)
 
 module _ (xs : List ℕ) (t : ℕ) (secret random : List ℕ) where
@@ -71,17 +67,17 @@ module _ (xs : List ℕ) (t : ℕ) (secret random : List ℕ) where
   -- a share is its words, then its tags, then its keys
   pub share-parts : (i : ℕ)
       → dealtShare xs t secret random i
-      ≡ dealtWords xs t secret random i ++ (tab (size t) (dealtTag xs t secret random i) ++ dealtKeys t (length secret) random i)
-  unfolding dealtShare dealtKeys
-  share-parts i = append-assoc (dealtWords xs t secret random i) (tab (size t) (dealtTag xs t secret random i)) (dealtKeys t (length secret) random i)
+      ≡ dealtWords xs t secret random i ++ (tab (size t) (dealtTag xs t secret random i) ++ keysOf t (length secret) random i)
+  unfolding dealtShare keysOf
+  share-parts i = append-assoc (dealtWords xs t secret random i) (tab (size t) (dealtTag xs t secret random i)) (keysOf t (length secret) random i)
 
   pub length-share : (i : ℕ) → length (dealtShare xs t secret random i) ≡ width t (length secret)
   unfolding width
   length-share i =
       ap length (share-parts i)
-      ∙ length-append (dealtWords xs t secret random i) (tab (size t) (dealtTag xs t secret random i) ++ dealtKeys t (length secret) random i)
+      ∙ length-append (dealtWords xs t secret random i) (tab (size t) (dealtTag xs t secret random i) ++ keysOf t (length secret) random i)
       ∙ ap₂ _+_ (length-words i)
-      (length-append (tab (size t) (dealtTag xs t secret random i)) (dealtKeys t (length secret) random i)
+      (length-append (tab (size t) (dealtTag xs t secret random i)) (keysOf t (length secret) random i)
       ∙ ap₂ _+_ (length-tags i) (length-keys t (length secret) random i))
       ∙ omega arith
 
@@ -104,7 +100,7 @@ module _ (xs : List ℕ) (t : ℕ) (secret random : List ℕ) where
   word-value i k p q =
       word-share i k p (omega arith)
       ∙ ap (λ (l : List ℕ). getD l k 0) (share-parts i)
-      ∙ List·getD-append (dealtWords xs t secret random i) (tab (size t) (dealtTag xs t secret random i) ++ dealtKeys t (length secret) random i) 0 k
+      ∙ List·getD-append (dealtWords xs t secret random i) (tab (size t) (dealtTag xs t secret random i) ++ keysOf t (length secret) random i) 0 k
       (omega (arith, length-words i))
       ∙ getD-tab (length secret) (λ k. value (polynomial t secret random k) (getD xs i 0)) k 0 q
 
@@ -117,12 +113,12 @@ module _ (xs : List ℕ) (t : ℕ) (secret random : List ℕ) where
   -- the words after the share words
   after-words : (i k : ℕ) → i < size t → k < 3 * size t
       → word t (length secret) (dealtShares xs t secret random) i (length secret + k)
-      ≡ getD (tab (size t) (dealtTag xs t secret random i) ++ dealtKeys t (length secret) random i) k 0
+      ≡ getD (tab (size t) (dealtTag xs t secret random i) ++ keysOf t (length secret) random i) k 0
   unfolding width
   after-words i k p q =
       word-share i (length secret + k) p (omega arith)
       ∙ ap (λ (l : List ℕ). getD l (length secret + k) 0) (share-parts i)
-      ∙ getD-after (dealtWords xs t secret random i) (tab (size t) (dealtTag xs t secret random i) ++ dealtKeys t (length secret) random i)
+      ∙ getD-after (dealtWords xs t secret random i) (tab (size t) (dealtTag xs t secret random i) ++ keysOf t (length secret) random i)
       (length secret) k 0 (length-words i)
 
   pub tag-dealt : (i j : ℕ) → i < size t → j < size t
@@ -130,18 +126,18 @@ module _ (xs : List ℕ) (t : ℕ) (secret random : List ℕ) where
   unfolding tagWord
   tag-dealt i j p q =
       after-words i j p (omega arith)
-      ∙ List·getD-append (tab (size t) (dealtTag xs t secret random i)) (dealtKeys t (length secret) random i) 0 j (omega (arith, length-tags i))
+      ∙ List·getD-append (tab (size t) (dealtTag xs t secret random i)) (keysOf t (length secret) random i) 0 j (omega (arith, length-tags i))
       ∙ getD-tab (size t) (dealtTag xs t secret random i) j 0 q
 
   -- word k of key(i,j): α at 0, β at 1
   key-word : (i j k m : ℕ) → m ≡ length secret + size t + 2 * j + k → i < size t → j < size t → k < 2
       → word t (length secret) (dealtShares xs t secret random) i m
       ≡ getD (dealtα t (length secret) random i j ∷ dealtβ t (length secret) random i j ∷ []) k 0
-  unfolding dealtKeys
+  unfolding keysOf
   key-word i j k m e p q r =
       ap (λ (m : ℕ). word t (length secret) (dealtShares xs t secret random) i m) {y = length secret + (size t + (j * 2 + k))} (omega (arith, e))
       ∙ after-words i (size t + (j * 2 + k)) p (omega arith)
-      ∙ getD-after (tab (size t) (dealtTag xs t secret random i)) (dealtKeys t (length secret) random i) (size t) (j * 2 + k) 0 (length-tags i)
+      ∙ getD-after (tab (size t) (dealtTag xs t secret random i)) (keysOf t (length secret) random i) (size t) (j * 2 + k) 0 (length-tags i)
       ∙ getD-concat (size t) 2 (λ j. dealtα t (length secret) random i j ∷ dealtβ t (length secret) random i j ∷ []) (λ j h. refl) j k 0 q r
 
   pub key-α : (i j : ℕ) → i < size t → j < size t → keyα t (length secret) (dealtShares xs t secret random) i j ≡ dealtα t (length secret) random i j
@@ -166,8 +162,8 @@ module _ (xs : List ℕ) (t : ℕ) (secret random : List ℕ) where
 
 -- Every dealt word is a field word where the random words are.
 
-key-words : (t d : ℕ) (random : List ℕ) (i : ℕ) → Every (λ a. a < prime) random → Every (λ a. a < prime) (dealtKeys t d random i)
-unfolding dealtKeys dealtα dealtβ
+key-words : (t d : ℕ) (random : List ℕ) (i : ℕ) → Every (λ a. a < prime) random → Every (λ a. a < prime) (keysOf t d random i)
+unfolding keysOf dealtα dealtβ
 key-words t d random i h =
     every-concat (size t) (λ j. dealtα t d random i j ∷ dealtβ t d random i j ∷ [])
     (λ j p. more (every-getD h 0 (omega arith) (t * d + 2 * (i * size t + j))) (more (every-getD h 0 (omega arith) (t * d + 2 * (i * size t + j) + 1)) none))
@@ -210,28 +206,20 @@ words-field : {ws : List ℕ} → Every (λ a. a < prime) ws → each isFieldWor
 words-field h = every-each isFieldWord (every-map (λ a e. lt-ltb a prime e) h)
 
 module _ (t : ℕ) (secret random buffer : List ℕ) where
-  abbrev refusal : ℕ → Dealt
-  refusal k = record { number = k; shares = buffer }
-
   -- an accepted input has passed the first check, and the others
-  one-passed : (k : ℕ) (test : Bool) (cs : List Check) (answer : Dealt) → checked refusal (suc k unless test ∷ cs) answer .number ≡ 0
-      → (test ≡ true) × (checked refusal cs answer .number ≡ 0)
-  one-passed k test cs answer h = pass-of refusal (suc k unless test) cs answer (λ (a : Dealt). a .number) (suc-ne-zero k) h
+  one-passed : (k : ℕ) (test : Bool) (cs : List Check) (answer : Dealt) → checked (refusal buffer) (suc k unless test ∷ cs) answer .number ≡ 0
+      → (test ≡ true) × (checked (refusal buffer) cs answer .number ≡ 0)
+  one-passed k test cs answer h = pass-of (refusal buffer) (suc k unless test) cs answer (λ (a : Dealt). a .number) (suc-ne-zero k) h
 
   pub in-range-accepted : InRange t secret random buffer
       → deal t secret random buffer ≡ record { number = 0; shares = dealtShares (ownPoints t) t secret random }
-  unfolding deal
   in-range-accepted r =
-      rw (
-        le-leb 1 t (r .threshold-low),
-        le-leb t 15 (r .threshold-high),
-        le-leb 1 (length secret) (r .length-low),
-        le-leb (length secret) 64 (r .length-high),
-        eq-eqb (length random) (randomLength t (length secret)) (r .random-length),
-        eq-eqb (length buffer) (size t * width t (length secret)) (r .buffer-length),
-        words-field (r .secret-words),
-        words-field (r .random-words),
-      )
+      sym
+      (dealt t secret random buffer (and-intro (le-leb 1 t (r .threshold-low)) (le-leb t 15 (r .threshold-high)))
+      (and-intro (le-leb 1 (length secret) (r .length-low)) (le-leb (length secret) 64 (r .length-high)))
+      (eq-eqb (length random) (randomLength t (length secret)) (r .random-length))
+      (eq-eqb (length buffer) (size t * width t (length secret)) (r .buffer-length))
+      (words-field (r .secret-words)) (words-field (r .random-words)) (dealtShares (ownPoints t) t secret random) refl)
 
   pub accepted-in-range : deal t secret random buffer .number ≡ 0 → InRange t secret random buffer
   unfolding deal
@@ -243,11 +231,11 @@ module _ (t : ℕ) (secret random buffer : List ℕ) where
       let checks4 : List Check = 4 unless eqb (length buffer) (size t * width t d) ∷ checks5 in
       let checks3 : List Check = 3 unless eqb (length random) (randomLength t d) ∷ checks4 in
       let checks2 : List Check = 2 unless isLength d ∷ checks3 in
-      let p1 : (isThreshold t ≡ true) × (checked refusal checks2 answer .number ≡ 0) = one-passed 0 (isThreshold t) checks2 answer h in
-      let p2 : (isLength d ≡ true) × (checked refusal checks3 answer .number ≡ 0) = one-passed 1 (isLength d) checks3 answer (p1 .1) in
-      let p3 : (eqb (length random) (randomLength t d) ≡ true) × (checked refusal checks4 answer .number ≡ 0) = one-passed 2 (eqb (length random) (randomLength t d)) checks4 answer (p2 .1) in
-      let p4 : (eqb (length buffer) (size t * width t d) ≡ true) × (checked refusal checks5 answer .number ≡ 0) = one-passed 3 (eqb (length buffer) (size t * width t d)) checks5 answer (p3 .1) in
-      let p5 : (each isFieldWord secret ≡ true) × (checked refusal checks6 answer .number ≡ 0) = one-passed 4 (each isFieldWord secret) checks6 answer (p4 .1) in
+      let p1 : (isThreshold t ≡ true) × (checked (refusal buffer) checks2 answer .number ≡ 0) = one-passed 0 (isThreshold t) checks2 answer h in
+      let p2 : (isLength d ≡ true) × (checked (refusal buffer) checks3 answer .number ≡ 0) = one-passed 1 (isLength d) checks3 answer (p1 .1) in
+      let p3 : (eqb (length random) (randomLength t d) ≡ true) × (checked (refusal buffer) checks4 answer .number ≡ 0) = one-passed 2 (eqb (length random) (randomLength t d)) checks4 answer (p2 .1) in
+      let p4 : (eqb (length buffer) (size t * width t d) ≡ true) × (checked (refusal buffer) checks5 answer .number ≡ 0) = one-passed 3 (eqb (length buffer) (size t * width t d)) checks5 answer (p3 .1) in
+      let p5 : (each isFieldWord secret ≡ true) × (checked (refusal buffer) checks6 answer .number ≡ 0) = one-passed 4 (each isFieldWord secret) checks6 answer (p4 .1) in
       let p6 : (each isFieldWord random ≡ true) × (answer .number ≡ 0) = one-passed 5 (each isFieldWord random) [] answer (p5 .1) in
       record {
         threshold-low = leb-true 1 t (and-left (leb 1 t) (leb t 15) (p1 .0));

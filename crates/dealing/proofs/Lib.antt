@@ -1,3 +1,5 @@
 -- What is proved of this crate.
 pub mod Examples
 pub mod Laws
+pub mod Places
+pub mod Refusals

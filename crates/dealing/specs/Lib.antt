@@ -1,2 +1,4 @@
+pub mod Answer
 pub mod Dealing
 pub mod Examples
+pub mod Steps

@@ -2,6 +2,7 @@
 pub mod Answers
 pub mod Coefficients
 pub mod Examples
+pub mod Hints
 pub mod Invariant
 pub mod Locator
 pub mod Passes

@@ -4,7 +4,7 @@
 use mathlib.Core.Path.{_≡_, sym, ap, _∙_}
 use mathlib.Core.Bool.{Bool, true, _&&_}
 use mathlib.Core.List.{List}
-use Prim.Native.Nat.{ℕ, suc, _+_, _≤_, _<_}
+use Prim.Native.Nat.{ℕ, suc, _+_, _≤_, _<_, _/_}
 use native.Mathlib.Nat.{le-trans, le-of-eq}
 use native.Mathlib.Omega.{arith}
 use lib.Dec.{eqb}
@@ -34,6 +34,11 @@ need-twice t s = omega arith
 pub need-least : (t s : ℕ) → suc t ≤ need t s
 unfolding need
 need-least t s = omega arith
+
+-- all but half the surplus, rounded down, are enough
+pub need-most : (t s agree others : ℕ) → suc t ≤ s → s ≡ agree + others → others ≤ surplus t s / 2 → need t s ≤ agree
+unfolding need surplus
+need-most t s agree others h e l = omega arith
 
 -- member i of the set agrees
 abbrev pub agrees : List ℕ → ℕ → (ℕ → ℕ → ℕ) → ℕ → (ℕ → List ℕ) → ℕ → Bool

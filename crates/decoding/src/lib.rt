@@ -13,6 +13,7 @@ ghost use Rattle.field.specs.Field.{isFieldWord};
 ghost use Rattle.members.specs.Members.{size, ownPoints, has, card};
 ghost use Rattle.polynomial.specs.Polynomial.{value};
 ghost use Rattle.decoding.specs.Algorithm.{raised, mixed, offBy, Advanced, firstTurn, stepped, passed, Gathered};
+ghost use Rattle.decoding.specs.Hint.{Guessed};
 ghost use Rattle.decoding.specs.Answer.{answerOf, stateOf};
 ghost use Rattle.decoding.specs.Decoding.{need, agreeing, find, undecoded, decodedFrom, decode};
 
@@ -312,15 +313,15 @@ fn judge(
         return refuse(coefficients, 16);
     }
     polynomial::interpolate(&points[..t + 1], coefficients);
-    let enough = need(t, members::card(set) as usize);
-    if agreeing(t, coefficients, values, set) < enough {
+    let least = need(t, members::card(set) as usize);
+    if agreeing(t, coefficients, values, set) < least {
         return refuse(coefficients, 16);
     }
     Outcome::Found
 }
 
-// What an accepted input is decoded to.
-fn solve(t: usize, values: &[u16], set: u32, coefficients: &mut [u16]) -> Outcome
+// What an accepted input is decoded to, in full.
+fn solve_in_full(t: usize, values: &[u16], set: u32, coefficients: &mut [u16]) -> Outcome
     requires { ⌜ (length (now values) ≡ size t) × (t ≤ 15) × (t < card (size t) set) × (set < 2 ^ size t) × (length (now coefficients) ≡ suc t) ⌝ }
     ensures { λ r. ⌜ answerOf r (now (coefficients .exit)) ≡ decodedFrom (suc t) (find (ownPoints t) t 1 (λ i k. getD (now (values .entry)) i 0) set) ⌝ }
 {
@@ -330,8 +331,59 @@ fn solve(t: usize, values: &[u16], set: u32, coefficients: &mut [u16]) -> Outcom
     judge(t, values, set, &e, &mut points, coefficients)
 }
 
+// The polynomial through the first t + 1 members of the hint is in the buffer, and enough members of the set agree with it.
+fn guess(
+    t: usize,
+    values: &[u16],
+    set: u32,
+    hint: u32,
+    points: &mut [u16],
+    coefficients: &mut [u16],
+) -> bool
+    requires { ⌜ (length (now values) ≡ size t) × (t ≤ 15) × (t < card (size t) set) × (set < 2 ^ size t) ⌝ }
+    requires { ⌜ (length (now points) ≡ 16) × (length (now coefficients) ≡ suc t) ⌝ }
+    ensures { λ r. ⌜ Guessed t (now (values .entry)) set r (now (coefficients .exit)) ⌝ }
+{
+    if gather(t, values, hint, &[1], points, coefficients) <= t {
+        return false;
+    }
+    polynomial::interpolate(&points[..t + 1], coefficients);
+    let enough = need(t, members::card(set) as usize);
+    if agreeing(t, coefficients, values, set) < enough {
+        return false;
+    }
+    true
+}
+
+// The same, with room for the points.
+fn guessed(t: usize, values: &[u16], set: u32, hint: u32, coefficients: &mut [u16]) -> bool
+    requires { ⌜ (length (now values) ≡ size t) × (t ≤ 15) × (t < card (size t) set) × (set < 2 ^ size t) × (length (now coefficients) ≡ suc t) ⌝ }
+    ensures { λ r. ⌜ Guessed t (now (values .entry)) set r (now (coefficients .exit)) ⌝ }
+{
+    let mut points = [0u16; 16];
+    guess(t, values, set, hint, &mut points, coefficients)
+}
+
+// What an accepted input is decoded to.
+fn solve(t: usize, values: &[u16], set: u32, hint: u32, coefficients: &mut [u16]) -> Outcome
+    requires { ⌜ (length (now values) ≡ size t) × (t ≤ 15) × (t < card (size t) set) × (set < 2 ^ size t) × (length (now coefficients) ≡ suc t) ⌝ }
+    ensures { λ r. ⌜ answerOf r (now (coefficients .exit)) ≡ decodedFrom (suc t) (find (ownPoints t) t 1 (λ i k. getD (now (values .entry)) i 0) set) ⌝ }
+{
+    if guessed(t, values, set, hint, coefficients) {
+        return Outcome::Found;
+    }
+    solve_in_full(t, values, set, coefficients)
+}
+
 // Decodes the values of the members of the set into t + 1 coefficients, power 0 first; refusals 1, 11, 19, 12, 17, 18 and 16.
-pub fn decode(t: usize, values: &[u16], set: u32, coefficients: &mut [u16]) -> Outcome
+// The answer does not depend on the hint. If enough members agree with the polynomial through the first t + 1 members of the hint, it is found sooner.
+pub fn decode_near(
+    t: usize,
+    values: &[u16],
+    set: u32,
+    hint: u32,
+    coefficients: &mut [u16],
+) -> Outcome
     ensures { λ r. ⌜ answerOf r (now (coefficients .exit)) ≡ decode t (now (values .entry)) set (length (now (coefficients .entry))) ⌝ }
 {
     if !members::threshold(t) {
@@ -353,5 +405,12 @@ pub fn decode(t: usize, values: &[u16], set: u32, coefficients: &mut [u16]) -> O
     if !field_words(values, set) {
         return refuse(coefficients, 18);
     }
-    solve(t, values, set, coefficients)
+    solve(t, values, set, hint, coefficients)
+}
+
+// Decoding with no hint.
+pub fn decode(t: usize, values: &[u16], set: u32, coefficients: &mut [u16]) -> Outcome
+    ensures { λ r. ⌜ answerOf r (now (coefficients .exit)) ≡ decode t (now (values .entry)) set (length (now (coefficients .entry))) ⌝ }
+{
+    decode_near(t, values, set, 0, coefficients)
 }

@@ -1,7 +1,8 @@
 // Arithmetic modulo the prime 65521, for any words: a word above 65520 is taken modulo the prime.
 ghost use mathlib.Core.Path.{_≡_};
 ghost use Prim.Native.Nat.{_+_, _*_, _^_, _%_, _≤_, _<_};
-ghost use Rattle.field.specs.Field.{sum, difference, product, inverse as inverseOf};
+ghost use Rattle.lists.specs.Tabulate.{each};
+ghost use Rattle.field.specs.Field.{isFieldWord, sum, difference, product, inverse as inverseOf};
 
 // The inverses of 1 to 30.
 const SMALL_INVERSES: [u16; 30] = [
@@ -108,4 +109,18 @@ pub fn inverse_of_difference(a: u16, b: u16) -> u16
         return subtract(0, small_inverse((b - a) as usize));
     }
     inverse(subtract(a, b))
+}
+
+// Every word is a field word.
+pub fn are_field_words(words: &[u16]) -> bool
+    ensures { λ r. ⌜ r ≡ each isFieldWord (now (words .entry)) ⌝ }
+{
+    let mut i = 0;
+    while i < words.len() {
+        if 65520 < words[i] {
+            return false;
+        }
+        i = i + 1;
+    }
+    true
 }

@@ -52,3 +52,10 @@ and-no false b h = refl
 pub and-not : (a b : Bool) → b ≡ false → a && not b ≡ a
 and-not true b h = rw h
 and-not false b h = refl
+
+pub or-left : (a b : Bool) → a ≡ true → a || b ≡ true
+or-left a b h = rw h
+
+pub or-elim : (a b : Bool) → a || b ≡ true → (a ≡ true) ⊎ (b ≡ true)
+or-elim true b h = inl refl
+or-elim false b h = inr h

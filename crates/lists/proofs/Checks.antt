@@ -18,7 +18,7 @@ module _ {A : Type 0} (refuse : ℕ → A) (number : ℕ) (passes : Bool) (later
   check-passes e = ap (λ (b : Bool). checked refuse (number unless b ∷ later) answer) e
 
 module _ {A : Type 0} (refuse : ℕ → A) (c : Check) (cs : List Check) (answer : A) where
-  -- an answer with a number that the check's refusal does not have has passed it
+  -- an answer with the number 0 has passed a check whose refusal has another number
   pub pass-of : (number : A → ℕ) → (number (refuse (c .number)) ≡ 0 → ⊥) → number (checked refuse (c ∷ cs) answer) ≡ 0
       → (c .passes ≡ true) × (number (checked refuse cs answer) ≡ 0)
   pass-of number other h =

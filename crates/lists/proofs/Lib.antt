@@ -7,4 +7,7 @@ pub mod Common
 pub mod Count
 pub mod Every
 pub mod InPlace
+pub mod StoredBlocks
+pub mod Stores
+pub mod Tables
 pub mod Tabulate

@@ -84,3 +84,8 @@ each-drop p l i d h = ap (each p) (drop-cons l i d h) ∙ ap (λ (k : ℕ). p (g
 pub each-end : {A : Type 0} (p : A → Bool) (l : List A) (i : ℕ) → length l ≤ i → each p (drop i l) ≡ true
 unfolding each
 each-end p l i h = ap (each p) (drop-of-length-le l h)
+
+pub each-tab : {A : Type 0} (p : A → Bool) (n : ℕ) (f : ℕ → A) → each p (tab n f) ≡ all n (λ i. p (f i))
+unfolding each tab all
+each-tab p zero f = refl
+each-tab p (suc n) f = ap (λ (b : Bool). p (f 0) && b) (each-tab p n (λ i. f (suc i)))

@@ -3,8 +3,9 @@
 use mathlib.Core.Path.{_≡_, refl, sym, ap, _∙_, subst}
 use mathlib.Core.Logic.{_⊎_, inl, inr}
 use mathlib.Core.Bool.{Bool, true, false, _&&_, _||_, not, cond, true≢false, false≢true}
-use Prim.Native.Nat.{ℕ, suc, _+_, _*_, _/_, _^_, _≤_, _<_}
+use Prim.Native.Nat.{ℕ, zero, suc, _+_, _*_, _/_, _^_, _≤_, _<_, zero-le, suc-le-suc}
 use native.Mathlib.Nat.{le-refl, le-trans, le-suc, le-of-eq, le-of-suc-le-suc, eq-or-lt-of-le, lt-of-lt-of-le, lt-irrefl}
+use native.Mathlib.Numerals.{add-one}
 use native.Mathlib.Omega.{arith}
 use lib.Dec.{eqb, ltb, leb, leb·suc-suc}
 use lib.Bits.{bitAnd, bitOr, bitXor, and-mask, or-lt, xor-lt}
@@ -144,3 +145,13 @@ size-le t h = omega (arith, leb-true t 15 (and-right (leb 1 t) (leb t 15) h))
 pub size-of : (t : ℕ) → 2 * t + 1 ≡ size t
 unfolding size
 size-of t = refl
+
+-- a loop that builds a set takes each member or leaves it
+pub setOf-step : (n : ℕ) (p : ℕ → Bool) (b : Bool) → n < 32 → b ≡ p n → cond b (adding (setOf n p) n) (setOf n p) ≡ setOf (n + 1) p
+setOf-step n p true h e = sym (ap (λ (m : ℕ). setOf m p) (add-one n) ∙ setOf-with n p h (sym e))
+setOf-step n p false h e = sym (ap (λ (m : ℕ). setOf m p) (add-one n) ∙ setOf-without n p (sym e))
+
+pub setOf-none : (n : ℕ) (p : ℕ → Bool) → ((i : ℕ) → i < n → p i ≡ false) → setOf n p ≡ 0
+unfolding setOf
+setOf-none zero p h = refl
+setOf-none (suc n) p h = rw (h 0 (suc-le-suc zero-le), setOf-none n (λ i. p (suc i)) (λ i l. h (suc i) (suc-le-suc l)))

@@ -10,12 +10,12 @@ use Rattle.shares.specs.Layout.{width, word, shareWords, tagWord, keyα, keyβ}
 use Rattle.shares.specs.Sample.{sample, keyless}
 use Rattle.pruning.specs.Pruning.{votes, round, rounds, survivors}
 use Rattle.decoding.specs.Decoding.{surplus, need, agreeing, through, find}
-use Rattle.reconstruction.specs.Votes.{usable, accepts, voteRows}
+use Rattle.reconstruction.specs.Votes.{fieldShare, usable, tagHolds, accepts, voteRows}
 use Rattle.reconstruction.specs.Reconstruction.{unopened, isQuorum, required, atZero, openedFrom, finish, reconstruct}
 use Rattle.reconstruction.specs.Examples.{Examples}
 
 pub examples : Examples
-unfolding tab all count keep first choose difference product power inverse eval value linear slopes interpolate size ownPoints bit has setOf card membersOf surplus need agreeing through find tag width word shareWords tagWord keyα keyβ sample keyless votes round rounds survivors usable accepts voteRows unopened isQuorum required atZero openedFrom finish reconstruct
+unfolding tab all count keep first choose difference product power inverse eval value linear slopes interpolate size ownPoints bit has setOf card membersOf surplus need agreeing through find tag width word shareWords tagWord keyα keyβ sample keyless votes round rounds survivors fieldShare usable tagHolds accepts voteRows unopened isQuorum required atZero openedFrom finish reconstruct
 examples =
     record {
       c9-opened = refl;

@@ -10,7 +10,7 @@ use Rattle.members.specs.Members.{size, ownPoints, bit, has, setOf, card, membe
 use Rattle.shares.specs.Layout.{width, word, shareWords, tagWord, keyα, keyβ}
 use Rattle.pruning.specs.Pruning.{votes, round, rounds, survivors}
 use Rattle.decoding.specs.Decoding.{surplus, need, agreeing, through, find}
-use Rattle.reconstruction.specs.Votes.{usable, accepts, voteRows}
+use Rattle.reconstruction.specs.Votes.{fieldShare, usable, tagHolds, accepts, voteRows}
 use Rattle.reconstruction.specs.Reconstruction.{unopened, isQuorum, required, atZero, openedFrom, finish, reconstruct}
 use Rattle.handin.specs.Lines.{before, parts, decimal, leadsWithZero, isNumeral, numerals, isLetter, numbersOf, lineOf}
 use Rattle.handin.specs.Reader.{shareOf, isSome, wordsOr, takeShare, takeNumbers, takeLine, takeLines, unread, placed, readFrom, readNumbers, readLines, read}
@@ -19,7 +19,7 @@ use Rattle.report.specs.Report.{digits, field, line, wordLine, printOpen
 use Rattle.report.specs.Examples.{Examples}
 
 pub examples : Examples
-unfolding digits field line wordLine printOpened printRead report before parts decimal leadsWithZero isNumeral numerals isLetter numbersOf lineOf shareOf isSome wordsOr takeShare takeNumbers takeLine takeLines unread placed readFrom readNumbers readLines read lineD line1 line2 line3 sampleText keylessText ascii tab all count keep each first concat choose difference product power inverse eval value linear slopes interpolate size ownPoints bit has setOf card membersOf surplus need agreeing through find tag width word shareWords tagWord keyα keyβ votes round rounds survivors usable accepts voteRows unopened isQuorum required atZero openedFrom finish reconstruct
+unfolding digits field line wordLine printOpened printRead report before parts decimal leadsWithZero isNumeral numerals isLetter numbersOf lineOf shareOf isSome wordsOr takeShare takeNumbers takeLine takeLines unread placed readFrom readNumbers readLines read lineD line1 line2 line3 sampleText keylessText ascii tab all count keep each first concat choose difference product power inverse eval value linear slopes interpolate size ownPoints bit has setOf card membersOf surplus need agreeing through find tag width word shareWords tagWord keyα keyβ votes round rounds survivors fieldShare usable tagHolds accepts voteRows unopened isQuorum required atZero openedFrom finish reconstruct
 examples =
     record {
       c9-printed = refl;

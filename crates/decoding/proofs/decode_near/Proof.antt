@@ -1,4 +1,4 @@
--- `decoding::decode` meets its contract: each refusal comes after the checks before it passed.
+-- `decoding::decode_near` meets its contract: each refusal comes after the checks before it passed.
 -- Assumes nothing.
 use mathlib.Core.Path.{_≡_, sym, _∙_}
 use mathlib.Core.Bool.{true}
@@ -14,8 +14,8 @@ use Rattle.members.specs.Members.{isThreshold, size, isSet, card}
 use Rattle.members.proofs.Words.{size-le, size-of}
 use Rattle.decoding.proofs.Refusals.{judgedAt, refuses-1, refuses-11, refuses-19, refuses-12, refuses-17, refuses-18, accepts, small, proper-test, members-test, words-test}
 use borrow.Author.Needs.{needs}
-use Rattle.decoding.proofs.decode.Statement.{statement}
-use Rattle.decoding.proofs.decode.Tie as tie
+use Rattle.decoding.proofs.decode_near.Statement.{statement}
+use Rattle.decoding.proofs.decode_near.Tie as tie
 
 -- what is known once a check is passed
 
@@ -142,8 +142,8 @@ same-length-7 c = search needs
 returns-7 : tie.Need-returns-7
 returns-7 c = c .before .before .solve .ensures ∙ sym (accepts _ _ _ _ (threshold (c .before .before .before .before .before .before .before .before .before .before .before .before)) (n-test (c .before .before .before .before .before .before .before .before .before .before .before)) (room-test (c .before .before .before .before .before .before .before .before .before .before)) (proper (c .before .before .before .before .before .before .before .before)) (enough (c .before .before .before .before .before .before)) (words (c .before .before .before .before)))
 
-pub decode-spec : {M : Type 1} → statement M
-decode-spec =
+pub decode-near-spec : {M : Type 1} → statement M
+decode-near-spec =
     tie.close
     (tie.spec
     threshold-requires

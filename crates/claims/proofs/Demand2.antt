@@ -1,0 +1,112 @@
+-- Demand 2, for any distinct points, and so for the members' own: from demand 3, where the honest members are all that are present.
+-- Assumes nothing.
+use mathlib.Core.Path.{_≡_, refl, sym, ap, _∙_, subst}
+use mathlib.Core.Bool.{Bool, true, false, _&&_, not}
+use mathlib.Core.List.{List}
+use Prim.Native.Nat.{ℕ, suc, _/_, _^_, _≤_, _<_, zero-le}
+use native.Mathlib.Nat.{le-trans, le-of-eq}
+use native.Mathlib.Omega.{arith}
+use lib.Dec.{eqb}
+use lib.ListN.{length}
+use borrow.Author.Tests.{eq-eqb}
+use Rattle.lists.specs.Tabulate.{all, count}
+use Rattle.lists.proofs.Bools.{and-intro, same-test}
+use Rattle.lists.proofs.Count.{count-none}
+use Rattle.lists.proofs.Every.{Every}
+use Rattle.lists.proofs.Tabulate.{all-intro}
+use Rattle.field.specs.Field.{prime}
+use Rattle.polynomial.proofs.Roots.{Distinct}
+use Rattle.members.specs.Members.{size, ownPoints, has, setOf, card}
+use Rattle.members.proofs.Masks.{setOf-ext, setOf-has, subsets-equal, card-setOf, card-mono}
+use Rattle.shares.specs.Layout.{width, word}
+use Rattle.decoding.specs.Decoding.{surplus, agreeing}
+use Rattle.decoding.proofs.Points.{length-own}
+use Rattle.decoding.proofs.Unique.{agrees, agrees-member}
+use Rattle.dealing.specs.Dealing.{polynomial, dealtShares}
+use Rattle.dealing.proofs.Laws.{InRange}
+use Rattle.reconstruction.specs.Votes.{usable, voteRows}
+use Rattle.reconstruction.specs.Reconstruction.{Opened, isQuorum, required, finish, reconstruct}
+use Rattle.reconstruction.proofs.Meaning.{usable-present, survivor-usable}
+use Rattle.reconstruction.proofs.Opening.{required-least}
+use Rattle.claims.specs.Demands.{Dealing, HandedIn, AsDealt, altered, Sound, Demand2}
+use Rattle.claims.proofs.Demand3.{kept, kept-agrees, dealt-fits, dealt-zero, sound, in-range, dealt-is, own-points, second-half}
+
+-- a member whose share is as dealt has its dealt share words
+as-dealt-kept : (t d present : ℕ) (dealt words : List ℕ) (i : ℕ) → AsDealt t d present dealt words i → kept t d dealt words i ≡ true
+unfolding width
+as-dealt-kept t d present dealt words i s =
+    all-intro d (λ k. eqb (word t d words i k) (word t d dealt i k))
+    (λ k h. eq-eqb (word t d words i k) (word t d dealt i k) (s .same k (omega arith)))
+
+no-exception : (a b : Bool) → (a ≡ true → b ≡ true) → a && not b ≡ false
+no-exception true b h = ap not (h refl)
+no-exception false b h = refl
+
+module _ (xs : List ℕ) (distinct : Distinct xs) (t : ℕ) (long : length xs ≡ size t) (secret random : List ℕ)
+    (secret-words : Every (λ a. a < prime) secret) (random-words : Every (λ a. a < prime) random)
+    (present quorum : ℕ) (words : List ℕ) (inside : present < 2 ^ size t) (is-quorum : isQuorum t quorum ≡ true)
+    (met : required t quorum ≤ card (size t) (usable t (length secret) present words))
+    (as-dealt : (i : ℕ) → i < size t → has present i ≡ true → AsDealt t (length secret) present (dealtShares xs t secret random) words i) where
+  abbrev answer : Opened
+  answer =
+      finish xs t (length secret) quorum (usable t (length secret) present words)
+      (voteRows t (length secret) (usable t (length secret) present words) words) (word t (length secret) words)
+
+  many : suc t ≤ card (size t) present
+  many =
+      le-trans (required-least t quorum is-quorum)
+      (le-trans met (card-mono (size t) (usable t (length secret) present words) present (λ i h u. usable-present t (length secret) present words i h u)))
+
+  known : Sound xs t (length secret) present secret (dealtShares xs t secret random) words answer
+  known = sound xs distinct t long secret random secret-words random-words present quorum words met present many as-dealt
+
+  all-survive : answer .survivors ≡ present
+  all-survive =
+      subsets-equal (size t) (answer .survivors) present (known .largest .below) inside
+      (λ i h e. usable-present t (length secret) present words i h
+      (survivor-usable t (length secret) (usable t (length secret) present words) words (answer .survivors) (known .largest .closed) i h e))
+      (λ i h e. known .holds i h (as-dealt i h e))
+
+  survivor-kept : (i : ℕ) → i < size t → has (answer .survivors) i ≡ true → kept t (length secret) (dealtShares xs t secret random) words i ≡ true
+  survivor-kept i h e =
+      as-dealt-kept t (length secret) present (dealtShares xs t secret random) words i (as-dealt i h (ap (λ (m : ℕ). has m i) (sym all-survive) ∙ e))
+
+  none-altered : card (size t) (altered t (length secret) (dealtShares xs t secret random) words (answer .survivors)) ≡ 0
+  unfolding altered
+  none-altered =
+      let q : ℕ → Bool = λ i. has (answer .survivors) i && not (kept t (length secret) (dealtShares xs t secret random) words i) in
+      card-setOf (size t) q
+      ∙ count-none (size t) q (λ i h. no-exception (has (answer .survivors) i) (kept t (length secret) (dealtShares xs t secret random) words i) (survivor-kept i h))
+
+  -- all survivors agree with the dealt polynomials
+  all-agree : agreeing xs t (length secret) (word t (length secret) words) (answer .survivors) (polynomial t secret random) ≡ answer .survivors
+  unfolding agreeing
+  all-agree =
+      let d : ℕ = length secret in
+      let f : ℕ → List ℕ = polynomial t secret random in
+      setOf-ext (size t) (agrees xs d (word t d words) (answer .survivors) f) (has (answer .survivors))
+      (λ i h. same-test (agrees xs d (word t d words) (answer .survivors) f i) (has (answer .survivors) i)
+      (agrees-member xs d (word t d words) (answer .survivors) f i)
+      (λ e. kept-agrees xs t secret random words (answer .survivors) i h (and-intro e (survivor-kept i h e))))
+      ∙ setOf-has (size t) (answer .survivors) (known .largest .below)
+
+  pub opens-dealt : answer ≡ record { number = 0; survivors = present; agreeing = present; secret = secret }
+  opens-dealt =
+      let few : card (size t) (altered t (length secret) (dealtShares xs t secret random) words (answer .survivors)) ≤ surplus t (card (size t) (answer .survivors)) / 2 =
+      le-trans (le-of-eq none-altered) zero-le in
+      let left : suc t ≤ card (size t) (answer .survivors) = subst (λ (s : ℕ). suc t ≤ card (size t) s) (sym all-survive) many in
+      let r = known .answers (polynomial t secret random) (dealt-fits xs t secret random words (answer .survivors) left few) in
+      let same : answer .agreeing ≡ present = r .2 ∙ all-agree ∙ all-survive in
+      let words-are : answer .secret ≡ secret = r .1 ∙ dealt-zero t secret random secret-words in
+      λ i. record { number = r .0 i; survivors = all-survive i; agreeing = same i; secret = words-are i }
+
+-- Demand 2.
+pub demand2 : Demand2
+unfolding Demand2
+demand2 t present quorum secret random dealt words dealing handed as-dealt =
+    let d : ℕ = length secret in
+    let r : InRange t secret random (dealing .buffer) = in-range t secret random dealt dealing in
+    second-half t secret random dealt dealing present quorum words handed
+    ∙ opens-dealt (ownPoints t) (own-points t secret random dealt dealing) t (length-own t) secret random (r .secret-words) (r .random-words) present quorum words
+    (handed .n-members) (handed .is-quorum) (handed .met)
+    (subst (λ (dl : List ℕ). (i : ℕ) → i < size t → has present i ≡ true → AsDealt t d present dl words i) (dealt-is t secret random dealt dealing) as-dealt)

@@ -1,0 +1,67 @@
+-- Dealing by its checks: the first that fails refuses and leaves the buffer, and where all pass the shares are dealt.
+-- Assumes nothing.
+use mathlib.Core.Path.{_≡_, sym, _∙_}
+use mathlib.Core.Bool.{Bool, true, false, not}
+use mathlib.Core.List.{List}
+use Prim.Native.Nat.{ℕ, _*_, _≤_}
+use lib.Dec.{leb, eqb}
+use lib.ListN.{length}
+use borrow.Author.Tests.{not-true, not-false, leb-true}
+use Rattle.lists.specs.Tabulate.{each}
+use Rattle.lists.proofs.Bools.{and-right}
+use Rattle.field.specs.Field.{isFieldWord}
+use Rattle.members.specs.Members.{isThreshold, size, ownPoints}
+use Rattle.shares.specs.Layout.{isLength, width}
+use Rattle.dealing.specs.Dealing.{randomLength, dealtShares, Dealt, deal}
+
+-- a test that the code negates
+pub fails : (r b : Bool) → r ≡ b → not r ≡ true → b ≡ false
+fails r b e h = sym e ∙ not-true r h
+
+pub passes : (r b : Bool) → r ≡ b → not r ≡ false → b ≡ true
+passes r b e h = sym e ∙ not-false r h
+
+pub threshold-le : (t : ℕ) → isThreshold t ≡ true → t ≤ 15
+threshold-le t h = leb-true t 15 (and-right (leb 1 t) (leb t 15) h)
+
+pub length-le : (d : ℕ) → isLength d ≡ true → d ≤ 64
+length-le d h = leb-true d 64 (and-right (leb 1 d) (leb d 64) h)
+
+-- a refusal leaves the buffer
+abbrev pub refusal : List ℕ → ℕ → Dealt
+refusal buffer k = record { number = k; shares = buffer }
+
+module _ (t : ℕ) (secret random buffer : List ℕ) where
+  pub refused-1 : isThreshold t ≡ false → refusal buffer 1 ≡ deal t secret random buffer
+  unfolding deal
+  refused-1 e₁ = rw e₁
+
+  module _ (e₁ : isThreshold t ≡ true) where
+    pub refused-2 : isLength (length secret) ≡ false → refusal buffer 2 ≡ deal t secret random buffer
+    unfolding deal
+    refused-2 e₂ = rw (e₁, e₂)
+
+    module _ (e₂ : isLength (length secret) ≡ true) where
+      pub refused-3 : eqb (length random) (randomLength t (length secret)) ≡ false → refusal buffer 3 ≡ deal t secret random buffer
+      unfolding deal
+      refused-3 e₃ = rw (e₁, e₂, e₃)
+
+      module _ (e₃ : eqb (length random) (randomLength t (length secret)) ≡ true) where
+        pub refused-4 : eqb (length buffer) (size t * width t (length secret)) ≡ false → refusal buffer 4 ≡ deal t secret random buffer
+        unfolding deal
+        refused-4 e₄ = rw (e₁, e₂, e₃, e₄)
+
+        module _ (e₄ : eqb (length buffer) (size t * width t (length secret)) ≡ true) where
+          pub refused-5 : each isFieldWord secret ≡ false → refusal buffer 5 ≡ deal t secret random buffer
+          unfolding deal
+          refused-5 e₅ = rw (e₁, e₂, e₃, e₄, e₅)
+
+          module _ (e₅ : each isFieldWord secret ≡ true) where
+            pub refused-6 : each isFieldWord random ≡ false → refusal buffer 6 ≡ deal t secret random buffer
+            unfolding deal
+            refused-6 e₆ = rw (e₁, e₂, e₃, e₄, e₅, e₆)
+
+            pub dealt : (e₆ : each isFieldWord random ≡ true) (shares : List ℕ) → shares ≡ dealtShares (ownPoints t) t secret random
+                → record { number = 0; shares = shares } ≡ deal t secret random buffer
+            unfolding deal
+            dealt e₆ shares e = rw (e₁, e₂, e₃, e₄, e₅, e₆, e)

@@ -1,0 +1,29 @@
+-- How far the reader has come: the shares taken so far, as the present mask and the buffer have them.
+-- Assumes nothing.
+use Prim.Native.Nat.{ℕ, _≤_}
+use mathlib.Core.Path.{_≡_}
+use mathlib.Core.List.{List}
+use lib.ListN.{length, replicate}
+use Rattle.members.specs.Members.{size, setOf}
+use Rattle.shares.specs.Layout.{width}
+use Rattle.handin.specs.Reader.{Share, shareOf, isSome, wordsOr, Taken, shares, refused, placed}
+use Rattle.handin.specs.declared.Line.{Line}
+use Rattle.handin.specs.declared.Line.the-variants.{Accepted, Refused}
+
+-- t is 1 to 15, d is 1 to 64
+pub record InRange (t d : ℕ) : Type 0 where
+  pub t-low : 1 ≤ t
+  pub t-high : t ≤ 15
+  pub d-low : 1 ≤ d
+  pub d-high : d ≤ 64
+
+-- the mask and the buffer are those of the shares taken
+pub record Holds (t d : ℕ) (taken : List Share) (present : ℕ) (words : List ℕ) : Type 0 where
+  pub members : present ≡ setOf (size t) (λ i. isSome (shareOf taken i))
+  pub stored : words ≡ placed t d taken
+  pub wide : (i : ℕ) → length (wordsOr (replicate (width t d) 0) (shareOf taken i)) ≡ width t d
+
+-- what lines come to, as the code has it: the mask and the buffer of the shares taken, or a refusal's number
+unfoldable pub Comes : ℕ → ℕ → Taken → Line → List ℕ → Type 0
+Comes t d result (Accepted present) words = (now : List Share) × (result ≡ shares now) × Holds t d now present words
+Comes t d result (Refused k) words = result ≡ refused k

@@ -1,0 +1,110 @@
+-- Words stored one after the other from a place on (`sets` of lib.Seq): laws, and loops that store a table or lists one after the other.
+-- Assumes nothing.
+use mathlib.Core.Path.{_≡_, refl, sym, ap, ap₂, _∙_}
+use mathlib.Core.List.{List, [], _∷_, _++_, append-assoc, append-nil}
+use Prim.Native.Nat.{ℕ, suc, _+_, _-_, _*_, _≤_, _<_, zero-le}
+use native.Mathlib.Nat.{add-zero}
+use native.Mathlib.Numerals.{add-one}
+use native.Mathlib.Omega.{arith}
+use lib.ListN.{length, take, drop, set, drop-of-length-le}
+use lib.Seq.{sets, sets-eq, length-sets, length-take-le, take-at, drop-at, take-set-le, drop-set-add}
+use Rattle.lists.specs.Tabulate.{tab, concat}
+use Rattle.lists.proofs.Tabulate.{length-tab}
+use Rattle.lists.proofs.Blocks.{tab-more, concat-more, length-concat}
+
+module _ {A : Type 0} where
+  -- stores keep the length
+  pub sets-length : (l vs now : List A) (at : ℕ) → now ≡ sets l at vs → length now ≡ length l
+  sets-length l vs now at e = ap length e ∙ length-sets l at vs
+
+  -- some words and then others
+  pub sets-append : (l vs ws : List A) (at : ℕ) → sets l at (vs ++ ws) ≡ sets (sets l at vs) (at + length vs) ws
+  sets-append l [] ws at = ap (λ (n : ℕ). sets l n ws) (sym (add-zero at))
+  sets-append l (a ∷ vs) ws at = sets-append (set l at a) vs ws (suc at) ∙ ap (λ (n : ℕ). sets (sets l at (a ∷ vs)) n ws) (omega arith)
+
+  pub sets-then : (l vs ws : List A) (at n : ℕ) → length vs ≡ n → sets l at (vs ++ ws) ≡ sets (sets l at vs) (at + n) ws
+  sets-then l vs ws at n e = sets-append l vs ws at ∙ ap (λ (k : ℕ). sets (sets l at vs) (at + k) ws) e
+
+  -- what was stored stands there
+  pub sets-read : (l vs : List A) (at n : ℕ) → length vs ≡ n → at + n ≤ length l → take n (drop at (sets l at vs)) ≡ vs
+  sets-read l vs at n e h =
+      ap (λ (s : List A). take n (drop at s))
+      (sets-eq vs l at (omega arith) ∙ append-assoc (take at l) vs (drop (at + length vs) l))
+      ∙ ap (take n) (drop-at (take at l) (vs ++ drop (at + length vs) l) at (length-take-le at l (omega arith)))
+      ∙ take-at vs (drop (at + length vs) l) n e
+
+  -- as many words as there are places
+  pub sets-whole : (l vs : List A) → length vs ≡ length l → sets l 0 vs ≡ vs
+  sets-whole l vs e =
+      sets-eq vs l 0 (omega arith)
+      ∙ ap (λ (r : List A). vs ++ r) (drop-of-length-le l {i = 0 + length vs} (omega arith))
+      ∙ append-nil vs
+
+  part-set : (l : List A) (a : A) (at n place : ℕ) → at + n ≤ place → take n (drop at (set l place a)) ≡ take n (drop at l)
+  part-set l a at n place h =
+      ap (λ (p : ℕ). take n (drop at (set l p a))) {y = at + (place - at)} (omega arith)
+      ∙ ap (take n) (drop-set-add at l (place - at) a)
+      ∙ take-set-le n (drop at l) (place - at) a (omega arith)
+
+  -- a part before the stores stays
+  pub part-kept : (l vs : List A) (at n place : ℕ) → at + n ≤ place → take n (drop at (sets l place vs)) ≡ take n (drop at l)
+  part-kept l [] at n place h = refl
+  part-kept l (a ∷ vs) at n place h = part-kept (set l place a) vs at n (suc place) (omega arith) ∙ part-set l a at n place h
+
+  -- a loop that has stored the first j of n words
+  pub record Filled (n : ℕ) (f : ℕ → A) (l : List A) (at : ℕ) (now : List A) (j : ℕ) : Type 0 where
+    pub inside : j ≤ n
+    pub so-far : now ≡ sets l at (tab j f)
+
+  pub filled-first : (n : ℕ) (f : ℕ → A) (l : List A) (at : ℕ) → Filled n f l at l 0
+  unfolding tab
+  filled-first n f l at = record { inside = zero-le; so-far = refl }
+
+  pub filled-length : (n : ℕ) (f : ℕ → A) (l : List A) (at : ℕ) (now : List A) (j : ℕ) → Filled n f l at now j → length now ≡ length l
+  filled-length n f l at now j t = sets-length l (tab j f) now at (t .so-far)
+
+  pub filled-next : (n : ℕ) (f : ℕ → A) (l : List A) (at : ℕ) (now : List A) (j place : ℕ) (a : A) → j < n → Filled n f l at now j
+      → place ≡ at + j → a ≡ f j → Filled n f l at (set now place a) (j + 1)
+  filled-next n f l at now j place a h t ep ea =
+      record {
+        inside = omega arith;
+        so-far =
+            ap (λ (s : List A). set s place a) (t .so-far)
+            ∙ ap₂ (λ (p : ℕ) (w : A). set (sets l at (tab j f)) p w) ep ea
+            ∙ sym (sets-then l (tab j f) (f j ∷ []) at j (length-tab j f))
+            ∙ ap (sets l at) (sym (ap (λ (k : ℕ). tab k f) (add-one j) ∙ tab-more j f));
+      }
+
+  pub filled-last : (n : ℕ) (f : ℕ → A) (l : List A) (at : ℕ) (now : List A) (j : ℕ) → n ≤ j → Filled n f l at now j → now ≡ sets l at (tab n f)
+  filled-last n f l at now j h t =
+      let e : j ≡ n = omega (arith, h, t .inside) in
+      t .so-far ∙ ap (λ (k : ℕ). sets l at (tab k f)) e
+
+  -- a loop that has stored the first j of n lists, each of w words
+  pub record Joined (n w : ℕ) (f : ℕ → List A) (l : List A) (at : ℕ) (now : List A) (j : ℕ) : Type 0 where
+    pub inside : j ≤ n
+    pub so-far : now ≡ sets l at (concat (tab j f))
+
+  pub joined-first : (n w : ℕ) (f : ℕ → List A) (l : List A) (at : ℕ) → Joined n w f l at l 0
+  unfolding tab concat
+  joined-first n w f l at = record { inside = zero-le; so-far = refl }
+
+  pub joined-length : (n w : ℕ) (f : ℕ → List A) (l : List A) (at : ℕ) (now : List A) (j : ℕ) → Joined n w f l at now j → length now ≡ length l
+  joined-length n w f l at now j t = sets-length l (concat (tab j f)) now at (t .so-far)
+
+  pub joined-next : (n w : ℕ) (f : ℕ → List A) (l : List A) (at : ℕ) (now next : List A) (j place : ℕ) → ((i : ℕ) → i < n → length (f i) ≡ w) → j < n
+      → Joined n w f l at now j → place ≡ at + j * w → next ≡ sets now place (f j) → Joined n w f l at next (j + 1)
+  joined-next n w f l at now next j place lengths h t ep en =
+      record {
+        inside = omega arith;
+        so-far =
+            en
+            ∙ ap₂ (λ (s : List A) (p : ℕ). sets s p (f j)) (t .so-far) ep
+            ∙ sym (sets-then l (concat (tab j f)) (f j) at (j * w) (length-concat j w f (λ i p. lengths i (omega arith))))
+            ∙ ap (sets l at) (sym (ap (λ (k : ℕ). concat (tab k f)) (add-one j) ∙ concat-more j f));
+      }
+
+  pub joined-last : (n w : ℕ) (f : ℕ → List A) (l : List A) (at : ℕ) (now : List A) (j : ℕ) → n ≤ j → Joined n w f l at now j → now ≡ sets l at (concat (tab n f))
+  joined-last n w f l at now j h t =
+      let e : j ≡ n = omega (arith, h, t .inside) in
+      t .so-far ∙ ap (λ (k : ℕ). sets l at (concat (tab k f))) e

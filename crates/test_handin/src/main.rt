@@ -1,0 +1,167 @@
+// Reads hand-in texts and prints for each the number, t, d, the quorum, the present mask and a checksum of the buffer.
+// The file stdout beside this folder is what another implementation answers, model.py.
+ghost use Prim.Native.Nat.{_<_};
+use handin::Outcome;
+use libc::STDOUT_FILENO;
+
+fn wide(word: u16) -> u64
+    ensures { λ r. ⌜ r < 65536 ⌝ }
+{
+    word as u64
+}
+
+fn checksum(words: &[u16]) -> u64 {
+    let mut sum: u64 = 0;
+    let mut i = 0;
+    while i < words.len() {
+        sum = (31 * sum + wide(words[i]) + 1) % 65521;
+        i += 1;
+    }
+    sum
+}
+
+fn print(number: u64, last: u8) {
+    io::print_decimal(STDOUT_FILENO, number);
+    io::write_all(STDOUT_FILENO, &[last]);
+}
+
+fn show(number: u16, t: usize, d: usize, quorum: u16, present: u32, words: &[u16]) {
+    print(number as u64, 9);
+    print(t as u64, 9);
+    print(d as u64, 9);
+    print(quorum as u64, 9);
+    print(present as u64, 9);
+    print(checksum(words), 10);
+}
+
+fn reads(text: &[u8], words: &mut [u16]) {
+    match handin::read(text, words) {
+        Outcome::Accepted {
+            t,
+            d,
+            quorum,
+            present,
+        } => show(0, t, d, quorum, present, words),
+        Outcome::Refused(k) => show(k, 0, 0, 0, 0, words),
+    }
+}
+
+// The text on standard input: 31 shares of 157 five-digit words.
+fn largest(words: &mut [u16]) {
+    let mut text = io::large_buffer();
+    let n = io::read_full(0, &mut text);
+    reads(&text[..n], words);
+}
+
+// A buffer of another length, and a text that is too long.
+fn lengths(words: &mut [u16]) {
+    let mut short = [7u16; 4866];
+    reads(b"D\t1\t1\t0\n", &mut short);
+    let long = [0u8; 40001];
+    reads(&long, words);
+}
+
+// Texts that are read: the document's sample, nobody, another order, the largest numerals.
+fn samples(words: &mut [u16]) {
+    reads(
+        b"D\t1\t1\t0\nP\t1\t253\t254\t507\t760\t1\t1\t1\t2\t1\t3\nP\t2\t256\t258\t514\t770\t2\t1\t2\t2\t2\t3\nP\t3\t300\t262\t521\t780\t3\t1\t3\t2\t3\t3\n",
+        words,
+    );
+    reads(b"D\t1\t1\t0\n", words);
+    reads(
+        b"D\t1\t1\t0\nP\t3\t300\t262\t521\t780\t3\t1\t3\t2\t3\t3\nP\t1\t253\t254\t507\t760\t1\t1\t1\t2\t1\t3\n",
+        words,
+    );
+    reads(
+        b"D\t1\t2\t65535\nP\t2\t65535\t65521\t0\t0\t0\t0\t0\t0\t0\t0\t9\n",
+        words,
+    );
+}
+
+// First lines that are no D line.
+fn first_lines(words: &mut [u16]) {
+    reads(b"", words);
+    reads(b"D\t1\t1\t0", words);
+    reads(b"\n", words);
+    reads(b"D\t0\t1\t0\n", words);
+    reads(b"D\t16\t1\t0\n", words);
+    reads(b"D\t1\t65\t0\n", words);
+}
+
+// First lines with a field that is no letter or no numeral, or one field too many.
+fn first_fields(words: &mut [u16]) {
+    reads(b"D\t1\t1\t65536\n", words);
+    reads(b"D\t01\t1\t0\n", words);
+    reads(b"D\t1\t1\t0\r\n", words);
+    reads(b"d\t1\t1\t0\n", words);
+    reads(
+        b"D\t1\t1\t0\t0\nP\t1\t253\t254\t507\t760\t1\t1\t1\t2\t1\t3\n",
+        words,
+    );
+    reads(b"D\t1\t1\t:\n", words);
+}
+
+// Lines that are no P line.
+fn other_lines(words: &mut [u16]) {
+    reads(
+        b"D\t1\t1\t0\nP\t1\t253\t254\t507\t760\t1\t1\t1\t2\t1\t3\nP\t0\t0\t0\t0\t0\t0\t0\t0\t0\t0\n",
+        words,
+    );
+    reads(
+        b"D\t1\t1\t0\nP\t1\t253\t254\t507\t760\t1\t1\t1\t2\t1\t3\nP\t1\t0\t0\t0\t0\t0\t0\t0\t0\t0\t0\t\n",
+        words,
+    );
+    reads(
+        b"D\t1\t1\t0\nP\t1\t253\t254\t507\t760\t1\t1\t1\t2\t1\t3\nD\t1\t1\t0\n",
+        words,
+    );
+    reads(
+        b"D\t1\t1\t0\nP\t1\t253\t254\t507\t760\t1\t1\t1\t2\t1\t3\n\n",
+        words,
+    );
+    reads(
+        b"D\t1\t1\t0\nP\t1\t253\t254\t507\t760\t1\t1\t1\t2\t1\t3\nP\t2\t0\t0\t0\t0\t0\t0\t0\t0\t0\t0",
+        words,
+    );
+    reads(
+        b"D\t1\t1\t0\nP\t65536\t0\t0\t0\t0\t0\t0\t0\t0\t0\t0\n",
+        words,
+    );
+    reads(
+        b"D\t1\t1\t0\nP\t1\t253\t254\t507\t760\t1\t1\t1\t2\t1\t3\nP\t1\t0\t0\t0\t0\t0\t0\t0\t0\t0\t00\n",
+        words,
+    );
+    reads(
+        b"D\t1\t1\t0\nP\t1\t253\t254\t507\t760\t1\t1\t1\t2\t1\t3\nx\nP\t1\t253\t254\t507\t760\t1\t1\t1\t2\t1\t3\n",
+        words,
+    );
+}
+
+// Members that are not 1 to n, or met before.
+fn other_members(words: &mut [u16]) {
+    reads(b"D\t1\t1\t0\nP\t0\t0\t0\t0\t0\t0\t0\t0\t0\t0\t0\n", words);
+    reads(b"D\t1\t1\t0\nP\t4\t0\t0\t0\t0\t0\t0\t0\t0\t0\t0\n", words);
+    reads(
+        b"D\t1\t1\t0\nP\t65535\t0\t0\t0\t0\t0\t0\t0\t0\t0\t0\n",
+        words,
+    );
+    reads(
+        b"D\t1\t1\t0\nP\t1\t253\t254\t507\t760\t1\t1\t1\t2\t1\t3\nP\t2\t256\t258\t514\t770\t2\t1\t2\t2\t2\t3\nP\t1\t253\t254\t507\t760\t1\t1\t1\t2\t1\t3\n",
+        words,
+    );
+    reads(
+        b"D\t1\t1\t0\nP\t1\t253\t254\t507\t760\t1\t1\t1\t2\t1\t3\nP\t1\t253\t254\t507\t760\t1\t1\t1\t2\t1\t3\nx\n",
+        words,
+    );
+}
+
+fn main() {
+    let mut words = [7u16; 4867];
+    largest(&mut words);
+    lengths(&mut words);
+    samples(&mut words);
+    first_lines(&mut words);
+    first_fields(&mut words);
+    other_lines(&mut words);
+    other_members(&mut words);
+}
