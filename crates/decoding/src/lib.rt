@@ -5,13 +5,13 @@
 // is then counted.
 ghost use mathlib.Core.Path.{_≡_};
 ghost use mathlib.Core.Bool.{cond, _&&_, _||_, not};
-ghost use Prim.Native.Nat.{ℕ, suc, _+_, _≤_, _<_, _^_};
-ghost use lib.Dec.{eqb, leb};
+ghost use Prim.Native.Nat.{suc, _+_, _≤_, _<_, _^_};
+ghost use lib.Dec.{eqb};
 ghost use lib.ListN.{length, getD, replicate};
 ghost use Rattle.lists.specs.Checks.{refusal};
 ghost use Rattle.lists.specs.Tabulate.{all};
 ghost use Rattle.field.specs.Field.{isFieldWord};
-ghost use Rattle.members.specs.Members.{isThreshold, size, ownPoints, has, card};
+ghost use Rattle.members.specs.Members.{size, ownPoints, has, card};
 ghost use Rattle.polynomial.specs.Polynomial.{value};
 ghost use Rattle.decoding.specs.Algorithm.{raised, mixed, offBy, Advanced, firstTurn, stepped, passed, Gathered};
 ghost use Rattle.decoding.specs.Hint.{Guessed};
@@ -178,7 +178,7 @@ fn pass(
         second: 0,
     };
     let mut i = 0;
-    while i < values.len() {
+    while i <= 2 * t {
         at = pass_member(t, values, set, i, n0, e0, n1, e1, at);
         i = i + 1;
     }
@@ -264,7 +264,7 @@ fn agreeing(t: usize, f: &[u16], values: &[u16], set: u32) -> usize
 }
 
 // How many of s members have to agree.
-fn need(t: usize, s: usize) -> usize
+pub fn need(t: usize, s: usize) -> usize
     requires { ⌜ (t ≤ 15) × (t < s) × (s ≤ 32) ⌝ }
     ensures { λ r. ⌜ r ≡ need t s ⌝ }
 {
@@ -314,8 +314,8 @@ fn judge(
         return refuse(coefficients, 16);
     }
     polynomial::interpolate(&points[..t + 1], coefficients);
-    let enough = need(t, members::card(set) as usize);
-    if agreeing(t, coefficients, values, set) < enough {
+    let least = need(t, members::card(set) as usize);
+    if agreeing(t, coefficients, values, set) < least {
         return refuse(coefficients, 16);
     }
     Outcome::Found

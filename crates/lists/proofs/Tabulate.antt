@@ -89,3 +89,17 @@ pub each-tab : {A : Type 0} (p : A → Bool) (n : ℕ) (f : ℕ → A) → each 
 unfolding each tab all
 each-tab p zero f = refl
 each-tab p (suc n) f = ap (λ (b : Bool). p (f 0) && b) (each-tab p n (λ i. f (suc i)))
+
+-- one more place at the end
+pub all-last : (n : ℕ) (p : ℕ → Bool) → all (suc n) p ≡ all n p && p n
+unfolding all
+all-last zero p = and-true-right (p 0)
+  where
+    and-true-right : (b : Bool) → b && true ≡ b
+    and-true-right true = refl
+    and-true-right false = refl
+all-last (suc n) p = ap (λ (b : Bool). p 0 && b) (all-last n (λ i. p (suc i))) ∙ assoc (p 0) (all n (λ i. p (suc i))) (p (suc n))
+  where
+    assoc : (a b c : Bool) → a && (b && c) ≡ a && b && c
+    assoc true b c = refl
+    assoc false b c = refl

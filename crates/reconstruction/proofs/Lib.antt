@@ -1,4 +1,5 @@
 -- What is proved of this crate.
+pub mod AllWords
 pub mod ByWord
 pub mod Examples
 pub mod Meaning

@@ -11,7 +11,8 @@ use Rattle.field.specs.Field.{prime}
 use Rattle.polynomial.specs.Polynomial.{value}
 use Rattle.members.specs.Members.{size, has, setOf, card}
 use Rattle.shares.specs.Layout.{word}
-use Rattle.decoding.specs.Decoding.{nth}
+use Rattle.decoding.specs.Decoding.{nth, agreeing}
+use Rattle.reconstruction.specs.Reconstruction.{atZero}
 
 -- a set of members that can be decoded: at least t + 1, with field words as share words
 pub record Decodable (t d : ℕ) (words : List ℕ) (s : ℕ) : Type 0 where
@@ -37,3 +38,13 @@ storedAt secret k (some fs) = set secret k (value (nth fs 0) 0)
 pub record Worded (xs : List ℕ) (t : ℕ) (y : ℕ → ℕ) (agreed k : ℕ) (secret : List ℕ) (found : Option (List (List ℕ))) (left : ℕ) (now : List ℕ) : Type 0 where
   pub members : left ≡ narrowed xs t y agreed found
   pub store : now ≡ storedAt secret k found
+
+-- the agreeing members of what was found for all words: nobody, if nothing was
+unfoldable pub agreedOf : List ℕ → ℕ → ℕ → (ℕ → ℕ → ℕ) → ℕ → Option (List (List ℕ)) → ℕ
+agreedOf xs t d y s none = 0
+agreedOf xs t d y s (some fs) = agreeing xs t d y s (nth fs)
+
+-- what all words come to: the agreeing members, and the secret where polynomials were found
+pub record Finished (xs : List ℕ) (t d : ℕ) (y : ℕ → ℕ → ℕ) (s : ℕ) (found : Option (List (List ℕ))) (left : ℕ) (secret : List ℕ) : Type 0 where
+  pub members : left ≡ agreedOf xs t d y s found
+  pub words : (fs : List (List ℕ)) → found ≡ some fs → secret ≡ atZero d (nth fs)

@@ -7,10 +7,10 @@ ghost use Rattle.mac.specs.Tag.{tag};
 ghost use mathlib.Core.Bool.{true, cond, _&&_};
 ghost use Rattle.lists.specs.Tabulate.{tab};
 ghost use Rattle.polynomial.specs.Polynomial.{value};
-ghost use Rattle.members.specs.Members.{size, ownPoints, has, setOf, adding};
+ghost use Rattle.members.specs.Members.{size, ownPoints, has, setOf, card, adding};
 ghost use Rattle.shares.specs.Layout.{word};
-ghost use Rattle.decoding.specs.Decoding.{find};
-ghost use Rattle.reconstruction.specs.Steps.{Decodable, Worded};
+ghost use Rattle.decoding.specs.Decoding.{need, find};
+ghost use Rattle.reconstruction.specs.Steps.{Decodable, Worded, Finished};
 ghost use Rattle.pruning.specs.Pruning.{survivors};
 ghost use Rattle.reconstruction.specs.Room.{Room};
 ghost use Rattle.reconstruction.specs.Votes.{fieldShare, usable, tagHolds, accepts, voteRows};
@@ -235,4 +235,46 @@ fn open_word(
     };
     secret[k] = polynomial::evaluate(f, 0);
     meeting_members(values, f, agreed)
+}
+
+// All words: the members that agree with each word's polynomial, and the secret; nobody, if there are no polynomials that enough agree with.
+fn open_words(
+    t: usize,
+    d: usize,
+    n: usize,
+    width: usize,
+    shares: &[u16],
+    survived: u32,
+    enough: usize,
+    values: &mut [u16],
+    f: &mut [u16],
+    secret: &mut [u16],
+) -> u32
+    requires { ⌜ Room t d n width (now shares) ⌝ }
+    requires { ⌜ Decodable t d (now shares) survived ⌝ }
+    requires { ⌜ (length (now values) ≡ n) × (length (now f) ≡ suc t) × (length (now secret) ≡ d) × (enough ≡ need t (card (size t) survived)) ⌝ }
+    ensures { λ r. ⌜ Finished (ownPoints t) t d (word t d (now (shares .entry))) survived (find (ownPoints t) t d (word t d (now (shares .entry))) survived) r (now (secret .exit)) ⌝ }
+{
+    let mut agreed = survived;
+    let mut k = 0;
+    while k < d {
+        agreed = open_word(
+            t,
+            d,
+            n,
+            width,
+            shares,
+            survived,
+            agreed,
+            k,
+            values,
+            f,
+            secret,
+        );
+        if (members::card(agreed) as usize) < enough {
+            return 0;
+        }
+        k = k + 1;
+    }
+    agreed
 }

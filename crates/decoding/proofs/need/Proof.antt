@@ -1,17 +1,11 @@
 -- `decoding::need` meets its contract.
 -- Assumes nothing.
-use mathlib.Core.Path.{_≡_}
-use Prim.Native.Nat.{ℕ, _+_, _-_, _/_}
 use native.Mathlib.Omega.{arith}
 use borrow.Author.Needs.{needs}
 use Rattle.decoding.specs.Decoding.{surplus, need}
 use borrow.Author.Needs.{needs}
 use Rattle.decoding.proofs.need.Statement.{statement}
 use Rattle.decoding.proofs.need.Tie as tie
-
-by-surplus : (t s : ℕ) → t + 1 + (s - (t + 1) + 1) / 2 ≡ need t s
-unfolding need surplus
-by-surplus t s = omega arith
 
 add-surplus : tie.Need-add-surplus
 add-surplus c = search needs
@@ -29,7 +23,8 @@ add-result-3 : tie.Need-add-result-3
 add-result-3 c = search needs
 
 returns : tie.Need-returns
-returns c = by-surplus _ _
+unfolding need surplus
+returns c = omega arith
 
 pub need-spec : {M : Type 1} → statement M
 need-spec =

@@ -5,6 +5,7 @@ use mathlib.Core.List.{List}
 use Prim.Native.Nat.{ℕ, _-_, _<_}
 use native.Mathlib.Omega.{arith}
 use lib.ListN.{length, replicate}
+use Rattle.members.proofs.Words.{size-of}
 use Rattle.decoding.specs.Answer.{stateOf}
 use Rattle.decoding.proofs.Passes.{Turn, first, next, holds, degrees-32, below-32, last}
 use Rattle.decoding.proofs.pass.Statement.{statement}
@@ -32,20 +33,23 @@ slice-write-e1 c = room _ (c .before .before .before .before .before .pre .1 .3)
 loop-holds : tie.Need-loop-holds Inv-loop μ-loop
 loop-holds c = first _ _ _ (c .before .before .before .before .before .pre .0 .1) (c .before .before .before .before .before .pre .0 .0) _ _ _ _ (c .before .before .before .before .before .pre .1 .0) (c .before .before .before .before .before .pre .1 .1) (c .before .before .before .before .before .pre .1 .2) (c .before .before .before .before .before .pre .1 .3)
 
+mul-loop : tie.Need-mul-loop Inv-loop μ-loop
+mul-loop c = omega (arith, c .before .before .before .before .before .before .pre .0 .1)
+
 pass-member-requires : tie.Need-pass-member-requires Inv-loop μ-loop
 pass-member-requires c κs =
     let H = holds _ _ _ (c .before .before .before .before .before .before .before .before .before .before .before .pre .0 .1) (c .before .before .before .before .before .before .before .before .before .before .before .pre .0 .0) _ _ (c .before .before .before .before .before .loop .inv) in
     let d = degrees-32 _ _ _ (c .before .before .before .before .before .before .before .before .before .before .before .pre .0 .1) (c .before .before .before .before .before .before .before .before .before .before .before .pre .0 .0) _ _ (c .before .before .before .before .before .loop .inv) in
-    ((H .long-n1 ∙ sym (H .long-n0), H .long-e1 ∙ sym (H .long-e0)), (d .0, d .1, c .before .before .before .before .before .before .before .before .before .before .before .pre .0 .1, c .before .before .before .before .loop-test .taken, below-32 _ (c .before .before .before .before .before .before .before .before .before .before .before .args .values .now) (c .before .before .before .before .before .before .before .before .before .before .before .args .set) (c .before .before .before .before .before .before .before .before .before .before .before .pre .0 .1) (c .before .before .before .before .before .before .before .before .before .before .before .pre .0 .0) _ (c .before .before .before .before .loop-test .taken)))
+    ((H .long-n1 ∙ sym (H .long-n0), H .long-e1 ∙ sym (H .long-e0)), (d .0, d .1, c .before .before .before .before .before .before .before .before .before .before .before .pre .0 .1, (omega (arith, c .before .before .before .before .loop-test .taken, size-of (c .before .before .before .before .before .before .before .before .before .before .before .args .t), c .before .before .before .before .before .before .before .before .before .before .before .pre .0 .0)), below-32 _ (c .before .before .before .before .before .before .before .before .before .before .before .args .values .now) (c .before .before .before .before .before .before .before .before .before .before .before .args .set) (c .before .before .before .before .before .before .before .before .before .before .before .pre .0 .1) (c .before .before .before .before .before .before .before .before .before .before .before .pre .0 .0) _ (omega (arith, c .before .before .before .before .loop-test .taken, size-of (c .before .before .before .before .before .before .before .before .before .before .before .args .t), c .before .before .before .before .before .before .before .before .before .before .before .pre .0 .0))))
 
 add-i : tie.Need-add-i Inv-loop μ-loop
-add-i c = omega arith
+add-i c = omega (arith, c .before .before .before .before .before .before .before .before .before .before .before .before .before .loop-test .taken, c .before .before .before .before .before .before .before .before .before .before .before .before .before .before .before .before .before .before .before .before .pre .0 .1)
 
 loop-less : tie.Need-loop-less Inv-loop μ-loop
-loop-less c = omega arith
+loop-less c = omega (arith, c .before .before .before .before .before .before .before .before .before .before .before .before .before .loop-test .taken, size-of (c .before .before .before .before .before .before .before .before .before .before .before .before .before .before .before .before .before .before .before .before .args .t), c .before .before .before .before .before .before .before .before .before .before .before .before .before .before .before .before .before .before .before .before .pre .0 .0)
 
 loop-again : tie.Need-loop-again Inv-loop μ-loop
-loop-again c = next _ _ _ (c .before .before .before .before .before .before .before .before .before .before .before .before .before .before .before .before .before .before .before .before .pre .0 .1) (c .before .before .before .before .before .before .before .before .before .before .before .before .before .before .before .before .before .before .before .before .pre .0 .0) _ _ _ (c .before .before .before .before .before .before .before .before .before .before .before .before .before .loop-test .taken) (c .before .before .before .before .before .before .before .before .before .before .before .before .before .before .loop .inv) (c .before .before .before .before .before .before .before .before .pass-member .ensures)
+loop-again c = next _ _ _ (c .before .before .before .before .before .before .before .before .before .before .before .before .before .before .before .before .before .before .before .before .pre .0 .1) (c .before .before .before .before .before .before .before .before .before .before .before .before .before .before .before .before .before .before .before .before .pre .0 .0) _ _ _ (omega (arith, c .before .before .before .before .before .before .before .before .before .before .before .before .before .loop-test .taken, size-of (c .before .before .before .before .before .before .before .before .before .before .before .before .before .before .before .before .before .before .before .before .args .t), c .before .before .before .before .before .before .before .before .before .before .before .before .before .before .before .before .before .before .before .before .pre .0 .0)) (c .before .before .before .before .before .before .before .before .before .before .before .before .before .before .loop .inv) (c .before .before .before .before .before .before .before .before .pass-member .ensures)
 
 same-length : tie.Need-same-length Inv-loop μ-loop
 same-length c = holds _ _ _ (c .before .before .before .before .before .before .before .pre .0 .1) (c .before .before .before .before .before .before .before .pre .0 .0) _ _ (c .before .loop .inv) .long-n0 ∙ sym (length-32 _ (c .before .before .before .before .before .before .before .pre .1 .0))
@@ -60,7 +64,7 @@ same-length-4 : tie.Need-same-length-4 Inv-loop μ-loop
 same-length-4 c = holds _ _ _ (c .before .before .before .before .before .before .before .pre .0 .1) (c .before .before .before .before .before .before .before .pre .0 .0) _ _ (c .before .loop .inv) .long-e1 ∙ sym (length-32 _ (c .before .before .before .before .before .before .before .pre .1 .3))
 
 returns : tie.Need-returns Inv-loop μ-loop
-returns c = last _ _ _ (c .before .before .before .before .before .before .before .pre .0 .1) (c .before .before .before .before .before .before .before .pre .0 .0) _ _ (c .loop-test .left) (c .before .loop .inv)
+returns c = last _ _ _ (c .before .before .before .before .before .before .before .pre .0 .1) (c .before .before .before .before .before .before .before .pre .0 .0) _ _ (omega (arith, c .loop-test .left, size-of (c .before .before .before .before .before .before .before .args .t), c .before .before .before .before .before .before .before .pre .0 .0)) (c .before .loop .inv)
 
 pub pass-spec : {M : Type 1} → statement M
 pass-spec =
@@ -71,6 +75,7 @@ pass-spec =
     slice-write-n0
     slice-write-e1
     loop-holds
+    mul-loop
     pass-member-requires
     add-i
     loop-less
