@@ -42,7 +42,7 @@ pub need-all : (t s : ℕ) → suc t ≤ s → need t s ≤ s
 unfolding need surplus
 need-all t s h = omega arith
 
-card-0 : (n : ℕ) → card n 0 ≡ 0
+pub card-0 : (n : ℕ) → card n 0 ≡ 0
 unfolding card
 card-0 n = count-none n (has 0) (λ i l. has-zero i)
 

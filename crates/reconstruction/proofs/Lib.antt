@@ -2,7 +2,9 @@
 pub mod AllWords
 pub mod ByWord
 pub mod Examples
+pub mod Halves
 pub mod Meaning
 pub mod Opening
+pub mod Order
 pub mod Places
 pub mod Voting

@@ -5,12 +5,14 @@ use mathlib.Core.Logic.{_⊎_, inl, inr}
 use mathlib.Core.Bool.{Bool, true, false}
 use mathlib.Core.Option.{Option, none, some}
 use mathlib.Core.List.{List}
-use Prim.Native.Nat.{ℕ, suc, _*_, _^_, _≤_, _<_}
+use Prim.Native.Nat.{ℕ, suc, _+_, _*_, _^_, _≤_, _<_}
 use native.Mathlib.Omega.{arith}
 use native.Mathlib.Nat.{le-refl}
+use native.Mathlib.Numerals.{add-one}
 use lib.Dec.{leb, eqb}
-use lib.ListN.{length}
+use lib.ListN.{length, replicate}
 use borrow.Author.Tests.{le-leb, leb-true, lt-ltb, eq-eqb, ne-eqb}
+use Rattle.lists.specs.Checks.{refusal, within}
 use Rattle.lists.proofs.Bools.{test, and-left}
 use Rattle.lists.proofs.Tabulate.{tab-ext}
 use Rattle.polynomial.specs.Polynomial.{value}
@@ -21,6 +23,8 @@ use Rattle.pruning.specs.Pruning.{survivors}
 use Rattle.decoding.specs.Decoding.{agreeing, Fits, nth, find}
 use Rattle.decoding.proofs.Search.{Found, find-found, find-complete, find-none, none-fits}
 use Rattle.decoding.proofs.Unique.{fits-agreeing, fits-value}
+use Rattle.reconstruction.specs.declared.Outcome.the-variants.{Open, Refused}
+use Rattle.reconstruction.specs.Answer.{answerOf}
 use Rattle.reconstruction.specs.Votes.{usable, voteRows}
 use Rattle.reconstruction.specs.Reconstruction.{Opened, unopened, isQuorum, required, atZero, openedFrom, finish, reconstruct}
 
@@ -96,3 +100,26 @@ required-least t quorum h =
       | inl e ↦ rw e (le-refl (suc t))
       | inr e ↦ rw e (leb-true (suc t) quorum (and-left (leb (suc t) quorum) (leb quorum (size t)) (rw e at h)))
     ]
+
+-- what the code's tests of the quorum come to
+module _ (t quorum : ℕ) where
+  pub required-0 : quorum ≡ 0 → t + 1 ≡ required t quorum
+  unfolding required
+  required-0 e = rw (eq-eqb quorum 0 e) (add-one t)
+
+  pub required-other : (quorum ≡ 0 → ⊥) → required t quorum ≡ quorum
+  unfolding required
+  required-other h = rw (ne-eqb quorum 0 h)
+
+  pub quorum-0 : quorum ≡ 0 → isQuorum t quorum ≡ true
+  unfolding isQuorum
+  quorum-0 e = rw (eq-eqb quorum 0 e)
+
+  pub quorum-other : (n : ℕ) → n ≡ size t → (quorum ≡ 0 → ⊥) → isQuorum t quorum ≡ within (t + 1) n quorum
+  unfolding isQuorum
+  quorum-other n e h = rw (ne-eqb quorum 0 h, e, add-one)
+
+-- a refusal's answer
+pub refused-so : (d number survived : ℕ) (secret : List ℕ) → secret ≡ replicate d 65535 → answerOf (Refused number survived) secret ≡ unopened d survived (refusal number)
+unfolding unopened
+refused-so d number survived secret e = rw e

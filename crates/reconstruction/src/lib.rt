@@ -12,6 +12,9 @@ ghost use Rattle.shares.specs.Layout.{word};
 ghost use Rattle.decoding.specs.Decoding.{need, find};
 ghost use Rattle.reconstruction.specs.Steps.{Decodable, Worded, Finished};
 ghost use Rattle.pruning.specs.Pruning.{survivors};
+ghost use Rattle.lists.specs.Checks.{refusal};
+ghost use Rattle.reconstruction.specs.Answer.{answerOf};
+ghost use Rattle.reconstruction.specs.Reconstruction.{unopened, isQuorum, required, finish, reconstruct as reconstructOf};
 ghost use Rattle.reconstruction.specs.Room.{Room};
 ghost use Rattle.reconstruction.specs.Votes.{fieldShare, usable, tagHolds, accepts, voteRows};
 
@@ -277,4 +280,143 @@ fn open_words(
         k = k + 1;
     }
     agreed
+}
+
+// The same, with room for the values and the coefficients of one word.
+fn open_all(
+    t: usize,
+    d: usize,
+    n: usize,
+    width: usize,
+    shares: &[u16],
+    survived: u32,
+    enough: usize,
+    secret: &mut [u16],
+) -> u32
+    requires { ⌜ Room t d n width (now shares) ⌝ }
+    requires { ⌜ Decodable t d (now shares) survived ⌝ }
+    requires { ⌜ (length (now secret) ≡ d) × (enough ≡ need t (card (size t) survived)) ⌝ }
+    ensures { λ r. ⌜ Finished (ownPoints t) t d (word t d (now (shares .entry))) survived (find (ownPoints t) t d (word t d (now (shares .entry))) survived) r (now (secret .exit)) ⌝ }
+{
+    let mut values = [0u16; 31];
+    let mut f = [0u16; 16];
+    open_words(
+        t,
+        d,
+        n,
+        width,
+        shares,
+        survived,
+        enough,
+        &mut values[..n],
+        &mut f[..t + 1],
+        secret,
+    )
+}
+
+// The survivors, with room for the vote rows.
+fn survivors_of(t: usize, d: usize, n: usize, width: usize, able: u32, shares: &[u16]) -> u32
+    requires { ⌜ Room t d n width (now shares) ⌝ }
+    ensures { λ r. ⌜ r ≡ survivors t (voteRows t d able (now (shares .entry))) ⌝ }
+{
+    let mut rows = [0u32; 31];
+    surviving(t, d, n, width, able, shares, &mut rows[..n])
+}
+
+// How many usable members the quorum asks for.
+fn required_members(t: usize, quorum: u16) -> usize
+    requires { ⌜ t ≤ 15 ⌝ }
+    ensures { λ r. ⌜ r ≡ required t quorum ⌝ }
+{
+    if quorum == 0 {
+        return t + 1;
+    }
+    quorum as usize
+}
+
+// The quorum is 0 or t + 1 to n.
+fn is_quorum(t: usize, n: usize, quorum: u16) -> bool
+    requires { ⌜ (t ≤ 15) × (n ≡ size t) ⌝ }
+    ensures { λ r. ⌜ r ≡ isQuorum t quorum ⌝ }
+{
+    if quorum == 0 {
+        return true;
+    }
+    lists::within(t + 1, n, quorum as usize)
+}
+
+// A refusal fills the secret buffer with 65535.
+fn refuse(secret: &mut [u16], number: u16, survived: u32) -> Outcome
+    ensures { λ r. ⌜ answerOf r (now (secret .exit)) ≡ unopened (length (now (secret .entry))) survived (refusal number) ⌝ }
+{
+    lists::fill(secret, 65535);
+    Outcome::Refused {
+        number,
+        survivors: survived,
+    }
+}
+
+// Opening after its first five checks: votes, survivors, then the words.
+fn open_shares(
+    t: usize,
+    d: usize,
+    n: usize,
+    width: usize,
+    present: u32,
+    quorum: u16,
+    shares: &[u16],
+    secret: &mut [u16],
+) -> Outcome
+    requires { ⌜ Room t d n width (now shares) ⌝ }
+    requires { ⌜ length (now secret) ≡ d ⌝ }
+    ensures { λ r. ⌜ answerOf r (now (secret .exit)) ≡ finish (ownPoints t) t d quorum (usable t d present (now (shares .entry))) (voteRows t d (usable t d present (now (shares .entry))) (now (shares .entry))) (word t d (now (shares .entry))) ⌝ }
+{
+    let able = usable_members(t, d, n, width, present, shares);
+    if (members::card(able) as usize) < required_members(t, quorum) {
+        return refuse(secret, 14, 0);
+    }
+    let survived = survivors_of(t, d, n, width, able, shares);
+    if survived == 0 {
+        return refuse(secret, 15, 0);
+    }
+    let enough = decoding::need(t, members::card(survived) as usize);
+    let agreed = open_all(t, d, n, width, shares, survived, enough, secret);
+    if agreed == 0 {
+        return refuse(secret, 16, survived);
+    }
+    Outcome::Open {
+        survivors: survived,
+        agreeing: agreed,
+    }
+}
+
+// Opens the shares of the present members into the secret buffer; refusals 1, 2, 11, 12, 13, 14, 15 and 16.
+pub fn reconstruct(
+    t: usize,
+    present: u32,
+    quorum: u16,
+    shares: &[u16],
+    secret: &mut [u16],
+) -> Outcome
+    ensures { λ r. ⌜ answerOf r (now (secret .exit)) ≡ reconstructOf t (length (now (secret .entry))) present quorum (now (shares .entry)) ⌝ }
+{
+    let d = secret.len();
+    if !members::threshold(t) {
+        return refuse(secret, 1, 0);
+    }
+    if !lists::within(1, 64, d) {
+        return refuse(secret, 2, 0);
+    }
+    let n = 2 * t + 1;
+    let width = d + 3 * n;
+    if shares.len() != n * width {
+        return refuse(secret, 11, 0);
+    }
+    if members::first(n) < present {
+        return refuse(secret, 12, 0);
+    }
+    if !is_quorum(t, n, quorum) {
+        return refuse(secret, 13, 0);
+    }
+    open_shares(t, d, n, width, present, quorum, shares, secret)
 }
