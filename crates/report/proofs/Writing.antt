@@ -7,7 +7,7 @@ use native.Mathlib.Nat.{add-zero}
 use native.Mathlib.Omega.{arith}
 use lib.ListN.{length, set, drop, length-append}
 use lib.Seq.{sets, sets-eq, set-comm, length-sets}
-use Rattle.report.specs.Writing.{Written}
+use Rattle.report.specs.Writing.{Written, Reported}
 
 sets-append : (l xs ys : List ℕ) (at : ℕ) → sets l at (xs ++ ys) ≡ sets (sets l at xs) (at + length xs) ys
 sets-append l [] ys at = ap (λ (k : ℕ). sets l k ys) (sym (add-zero at))
@@ -60,3 +60,7 @@ written-front {l = l} {bytes = bytes} {end = end} w =
 
 pub written-count : {l bytes m : List ℕ} {end : ℕ} → Written l 0 bytes m end → end ≡ length bytes
 written-count w = omega (arith, w .next)
+
+-- what is printed is in the buffer
+pub reported-inside : {text before after : List ℕ} {count : ℕ} → Reported text before after count → count ≤ length after
+reported-inside r = omega (arith, r .long, simp length-append at (ap length (r .printed)))
