@@ -2,7 +2,7 @@
 -- Assumes nothing.
 use mathlib.Core.Path.{_≡_, refl, sym, ap, _∙_}
 use mathlib.Core.List.{List, [], _∷_, _++_, append-assoc}
-use Prim.Native.Nat.{ℕ, zero, suc, _+_, _*_, _^_, _≤_, _<_, zero-le}
+use Prim.Native.Nat.{ℕ, suc, _+_, _*_, _^_, _≤_, _<_, zero-le}
 use native.Mathlib.Numerals.{add-one}
 use native.Mathlib.Omega.{arith}
 use lib.ListN.{length, set, getD, length-append}
@@ -18,22 +18,21 @@ pub length-field : (n : ℕ) → length (field n) ≡ suc (length (digits 10 n))
 unfolding field
 length-field n = refl
 
+-- a number below 10 to the power k + 1
+pub field-most : (k n : ℕ) → n < 10 ^ suc k → length (field n) ≤ k + 2
+field-most k n h = omega (arith, length-field n, digits-most k 10 n h)
+
+-- any number
+pub field-short : (n : ℕ) → n < 4294967296 → length (field n) ≤ 11
+field-short n h = omega (arith, length-field n, at-most-ten n h)
+
 -- a line as the code writes it, piece after piece
-pub line-pieces : (word : List ℕ) (a b : ℕ) → lineOfTwo word a b ≡ ((word ++ field a) ++ field b) ++ (10 ∷ [])
+line-pieces : (word : List ℕ) (a b : ℕ) → lineOfTwo word a b ≡ ((word ++ field a) ++ field b) ++ (10 ∷ [])
 unfolding lineOfTwo concat
 line-pieces word a b = simp append-assoc
 
-pub length-line : (word : List ℕ) (a b : ℕ) → length (lineOfTwo word a b) ≡ length word + length (field a) + length (field b) + 1
+length-line : (word : List ℕ) (a b : ℕ) → length (lineOfTwo word a b) ≡ length word + length (field a) + length (field b) + 1
 length-line word a b = ap length (line-pieces word a b) ∙ simp length-append
-
--- a line of two numbers that have at most k + 1 and m + 1 digits
-pub line-most : (word : List ℕ) (k m a b : ℕ) → a < 10 ^ suc k → b < 10 ^ suc m → length (lineOfTwo word a b) ≤ length word + k + m + 5
-line-most word k m a b p q =
-    omega (arith, length-line word a b, length-field a, length-field b, digits-most k 10 a p, digits-most m 10 b q)
-
--- a line of any two numbers
-pub line-long : (word : List ℕ) (a b : ℕ) → a < 4294967296 → b < 4294967296 → length (lineOfTwo word a b) ≤ length word + 23
-line-long word a b p q = omega (arith, length-line word a b, length-field a, length-field b, at-most-ten a p, at-most-ten b q)
 
 -- a line is written by its pieces
 pub written-line : {l m₁ m₂ m₃ word : List ℕ} {at e₁ e₂ e₃ : ℕ} (a b : ℕ)
@@ -43,16 +42,16 @@ written-line {l = l} {m₃ = m₃} {word = word} {at = at} {e₃ = e₃} a b p q
     rw (line-pieces word a b) (written-then (written-then (written-then p q) r) (written-one m₃ e₃ 10 h))
 
 -- the line of the word at place k, as the code writes it
-word-line : (secret : List ℕ) (k : ℕ) → lineOfTwo (ascii "WORD") (k + 1) (getD secret k 0) ≡ wordLine secret k
-unfolding lineOfTwo wordLine line
-word-line secret k = ap (λ (m : ℕ). lineOfTwo (ascii "WORD") m (getD secret k 0)) (add-one k)
+word-line : (secret : List ℕ) (k : ℕ) → line "WORD" ((k + 1) ∷ getD secret k 0 ∷ []) ≡ wordLine secret k
+unfolding wordLine
+word-line secret k = ap (λ (m : ℕ). line "WORD" (m ∷ getD secret k 0 ∷ [])) (add-one k)
 
-pub word-short : (k w : ℕ) → k < 64 → w < 65536 → length (lineOfTwo (ascii "WORD") (k + 1) w) ≤ 14
-unfolding ascii
+word-short : (k w : ℕ) → k < 64 → w < 65536 → length (line "WORD" ((k + 1) ∷ w ∷ [])) ≤ 14
+unfolding ascii line lineOfTwo
 word-short k w h fits =
     let p : k + 1 < 10 ^ 2 = omega arith in
     let q : w < 10 ^ 5 = omega arith in
-    line-most (ascii "WORD") 1 4 (k + 1) w p q
+    omega (arith, length-line (ascii "WORD") (k + 1) w, field-most 1 (k + 1) p, field-most 4 w q)
 
 -- the lines of the first k words of a secret are written, with at most 14 bytes each
 pub record Lined (secret before : List ℕ) (at : ℕ) (output : List ℕ) (end k : ℕ) : Type 0 where
@@ -67,9 +66,9 @@ module _ (secret before : List ℕ) (at : ℕ) where
 
   module _ (output : List ℕ) (end k : ℕ) (h : k < length secret) (few : k < 64) (fits : getD secret k 0 < 65536) where
     pub lined-next : (after : List ℕ) (next : ℕ) → Lined secret before at output end k
-        → Written output end (lineOfTwo (ascii "WORD") (k + 1) (getD secret k 0)) after next → Lined secret before at after next (k + 1)
+        → Written output end (line "WORD" ((k + 1) ∷ getD secret k 0 ∷ [])) after next → Lined secret before at after next (k + 1)
     lined-next after next l w =
-        let e : concat (tab (k + 1) (wordLine secret)) ≡ concat (tab k (wordLine secret)) ++ lineOfTwo (ascii "WORD") (k + 1) (getD secret k 0) =
+        let e : concat (tab (k + 1) (wordLine secret)) ≡ concat (tab k (wordLine secret)) ++ line "WORD" ((k + 1) ∷ getD secret k 0 ∷ []) =
         ap (λ (m : ℕ). concat (tab m (wordLine secret))) (add-one k)
         ∙ concat-more k (wordLine secret)
         ∙ ap (λ (b : List ℕ). concat (tab k (wordLine secret)) ++ b) (sym (word-line secret k)) in
@@ -85,11 +84,6 @@ module _ (secret before : List ℕ) (at : ℕ) where
       let n : k ≡ length secret = omega (arith, l .inside) in
       rw n at (l .written)
 
--- the two answers' first lines are short
-pub open-short : (a b : ℕ) → a < 4294967296 → b < 4294967296 → length (lineOfTwo (ascii "OPEN") a b) ≤ 27
-unfolding ascii
-open-short a b p q = line-long (ascii "OPEN") a b p q
-
-pub refused-short : (a b : ℕ) → a < 4294967296 → b < 4294967296 → length (lineOfTwo (ascii "REFUSED") a b) ≤ 30
-unfolding ascii
-refused-short a b p q = line-long (ascii "REFUSED") a b p q
+pub open-short : (a b : ℕ) → a < 4294967296 → b < 4294967296 → length (line "OPEN" (a ∷ b ∷ [])) ≤ 27
+unfolding ascii line lineOfTwo
+open-short a b p q = omega (arith, length-line (ascii "OPEN") a b, field-short a p, field-short b q)

@@ -64,7 +64,7 @@ fn put_bytes(bytes: &[u8], output: &mut [u8], at: usize) -> usize
 
 // A line: a word and two numbers.
 fn put_line(word: &[u8], a: u32, b: u32, output: &mut [u8], at: usize) -> usize
-    requires { ⌜ at + length (lineOfTwo (now word) a b) ≤ length (now output) ⌝ }
+    requires { ⌜ at + length (now word) + length (field a) + length (field b) + 1 ≤ length (now output) ⌝ }
     ensures { λ r. ⌜ Written (now (output .entry)) at (lineOfTwo (now (word .entry)) a b) (now (output .exit)) r ⌝ }
 {
     let first = put_bytes(word, output, at);
@@ -72,6 +72,14 @@ fn put_line(word: &[u8], a: u32, b: u32, output: &mut [u8], at: usize) -> usize
     let end = put_field(b, output, second);
     output[end] = 10;
     end + 1
+}
+
+// The line of a word, at its place counted from 1.
+fn put_word_line(place: usize, word: u16, output: &mut [u8], at: usize) -> usize
+    requires { ⌜ (place ≤ 64) × (at + 14 ≤ length (now output)) ⌝ }
+    ensures { λ r. ⌜ Written (now (output .entry)) at (line "WORD" (place ∷ word ∷ [])) (now (output .exit)) r ⌝ }
+{
+    put_line(b"WORD", place as u32, word as u32, output, at)
 }
 
 // A line for each word of the secret.
@@ -82,10 +90,18 @@ fn put_words(secret: &[u16], output: &mut [u8], at: usize) -> usize
     let mut end = at;
     let mut k = 0;
     while k < secret.len() {
-        end = put_line(b"WORD", (k + 1) as u32, secret[k] as u32, output, end);
+        end = put_word_line(k + 1, secret[k], output, end);
         k += 1;
     }
     end
+}
+
+// The first line of a secret that was opened.
+fn put_open_line(survivors: u32, agreeing: u32, output: &mut [u8]) -> usize
+    requires { ⌜ 27 ≤ length (now output) ⌝ }
+    ensures { λ r. ⌜ Written (now (output .entry)) 0 (line "OPEN" (survivors ∷ agreeing ∷ [])) (now (output .exit)) r ⌝ }
+{
+    put_line(b"OPEN", survivors, agreeing, output, 0)
 }
 
 // A secret that was opened.
@@ -93,7 +109,7 @@ fn put_open(survivors: u32, agreeing: u32, secret: &[u16], output: &mut [u8]) ->
     requires { ⌜ (length (now secret) ≤ 64) × (1024 ≤ length (now output)) ⌝ }
     ensures { λ r. ⌜ Written (now (output .entry)) 0 (line "OPEN" (survivors ∷ agreeing ∷ []) ++ wordLines (now (secret .entry))) (now (output .exit)) r ⌝ }
 {
-    let end = put_line(b"OPEN", survivors, agreeing, output, 0);
+    let end = put_open_line(survivors, agreeing, output);
     put_words(secret, output, end)
 }
 

@@ -4,7 +4,7 @@ use native.Mathlib.Omega.{arith}
 use Rattle.lists.specs.Ascii.{ascii}
 use Rattle.report.specs.Report.{line}
 use Rattle.report.specs.Writing.{lineOfTwo}
-use Rattle.report.proofs.Lines.{refused-short}
+use Rattle.report.proofs.Lines.{field-short}
 use borrow.Author.Needs.{needs}
 use Rattle.report.proofs.put_refused.Statement.{statement}
 use Rattle.report.proofs.put_refused.Tie as tie
@@ -13,8 +13,7 @@ slice-aggregate-put-line : tie.Need-slice-aggregate-put-line
 slice-aggregate-put-line c = search needs
 
 put-line-requires : tie.Need-put-line-requires
-unfolding ascii
-put-line-requires c κs = omega (arith, refused-short (c .before .before .before .args .number) (c .before .before .before .args .survivors) (omega arith) (omega arith))
+put-line-requires c κs = omega (arith, field-short (c .before .before .before .args .number) (omega arith), field-short (c .before .before .before .args .survivors) (omega arith))
 
 same-length : tie.Need-same-length
 same-length c = search needs
