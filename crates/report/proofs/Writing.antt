@@ -1,0 +1,66 @@
+-- Laws of bytes written into a buffer.
+-- Assumes nothing.
+use mathlib.Core.Path.{_≡_, refl, sym, ap, ap₂, _∙_, subst}
+use mathlib.Core.List.{List, [], _∷_, _++_}
+use Prim.Native.Nat.{ℕ, zero, suc, _+_, _≤_, _<_}
+use native.Mathlib.Nat.{add-zero}
+use native.Mathlib.Omega.{arith}
+use lib.ListN.{length, set, drop, length-append}
+use lib.Seq.{sets, sets-eq, set-comm, length-sets}
+use Rattle.report.specs.Writing.{Written, Reported}
+
+sets-append : (l xs ys : List ℕ) (at : ℕ) → sets l at (xs ++ ys) ≡ sets (sets l at xs) (at + length xs) ys
+sets-append l [] ys at = ap (λ (k : ℕ). sets l k ys) (sym (add-zero at))
+sets-append l (x ∷ xs) ys at =
+    let n : suc at + length xs ≡ at + suc (length xs) = omega arith in
+    sets-append (set l at x) xs ys (suc at) ∙ ap (λ (k : ℕ). sets (sets (set l at x) (suc at) xs) k ys) n
+
+-- the last byte may be stored first
+pub sets-last : (l xs : List ℕ) (y at : ℕ) → sets l at (xs ++ (y ∷ [])) ≡ sets (set l (at + length xs) y) at xs
+sets-last l [] y at = ap (λ (k : ℕ). set l k y) (sym (add-zero at))
+sets-last l (x ∷ xs) y at =
+    let n : suc at + length xs ≡ at + suc (length xs) = omega arith in
+    sets-last (set l at x) xs y (suc at)
+    ∙ ap (λ (k : ℕ). sets (set (set l at x) k y) (suc at) xs) n
+    ∙ ap (λ (m : List ℕ). sets m (suc at) xs) (set-comm l at (at + suc (length xs)) x y (λ e. omega arith))
+
+-- nothing is written
+pub written-none : (l : List ℕ) (at : ℕ) → at ≤ length l → Written l at [] l at
+written-none l at h = record { stored = refl; next = sym (add-zero at); fits = h }
+
+-- one byte
+pub written-one : (l : List ℕ) (at b : ℕ) → at < length l → Written l at (b ∷ []) (set l at b) (at + 1)
+written-one l at b h = record { stored = refl; next = refl; fits = omega arith }
+
+pub written-length : {l bytes m : List ℕ} {at end : ℕ} → Written l at bytes m end → length m ≡ length l
+written-length {l = l} {bytes = bytes} {at = at} w = ap length (w .stored) ∙ length-sets l at bytes
+
+module _ {l m r : List ℕ} {at middle end : ℕ} {xs ys : List ℕ} where
+  -- bytes, and bytes after them
+  pub written-then : Written l at xs m middle → Written m middle ys r end → Written l at (xs ++ ys) r end
+  written-then p q =
+      record {
+        stored =
+            q .stored
+            ∙ ap₂ (λ (k : List ℕ) (n : ℕ). sets k n ys) (p .stored) (p .next)
+            ∙ sym (sets-append l xs ys at);
+        next = simp length-append (omega (arith, p .next, q .next));
+        fits = omega (arith, q .fits, written-length p);
+      }
+
+-- the same bytes
+pub written-as : {l xs ys m : List ℕ} {at end : ℕ} → xs ≡ ys → Written l at xs m end → Written l at ys m end
+written-as {l = l} {m = m} {at = at} {end = end} e w = subst (λ (bytes : List ℕ). Written l at bytes m end) e w
+
+-- what is written from the front on
+pub written-front : {l bytes m : List ℕ} {end : ℕ} → Written l 0 bytes m end → m ≡ bytes ++ drop end l
+written-front {l = l} {bytes = bytes} {end = end} w =
+    let n : 0 + length bytes ≡ end = sym (w .next) in
+    w .stored ∙ sets-eq bytes l 0 (omega (arith, w .fits)) ∙ ap (λ (k : ℕ). bytes ++ drop k l) n
+
+pub written-count : {l bytes m : List ℕ} {end : ℕ} → Written l 0 bytes m end → end ≡ length bytes
+written-count w = omega (arith, w .next)
+
+-- what is printed is in the buffer
+pub reported-inside : {text before after : List ℕ} {count : ℕ} → Reported text before after count → count ≤ length after
+reported-inside r = omega (arith, r .long, simp length-append at (ap length (r .printed)))

@@ -1,0 +1,28 @@
+-- `report::put_refused` meets its contract: the line of a refusal.
+-- Assumes nothing.
+use native.Mathlib.Omega.{arith}
+use Rattle.lists.specs.Ascii.{ascii}
+use Rattle.report.specs.Report.{line}
+use Rattle.report.specs.Writing.{lineOfTwo}
+use Rattle.report.proofs.Lines.{refused-short}
+use borrow.Author.Needs.{needs}
+use Rattle.report.proofs.put_refused.Statement.{statement}
+use Rattle.report.proofs.put_refused.Tie as tie
+
+slice-aggregate-put-line : tie.Need-slice-aggregate-put-line
+slice-aggregate-put-line c = search needs
+
+put-line-requires : tie.Need-put-line-requires
+unfolding ascii
+put-line-requires c κs = omega (arith, refused-short (c .before .before .before .args .number) (c .before .before .before .args .survivors) (omega arith) (omega arith))
+
+same-length : tie.Need-same-length
+same-length c = search needs
+
+returns : tie.Need-returns
+unfolding ascii lineOfTwo line
+returns c = c .before .before .put-line .ensures
+
+pub put-refused-spec : {M : Type 1} → statement M
+put-refused-spec =
+    tie.close (tie.spec slice-aggregate-put-line put-line-requires same-length returns)
