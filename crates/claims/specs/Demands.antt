@@ -1,4 +1,4 @@
--- Demands 2 and 3 as statements over the definitions of dealing and opening. Not yet proved.
+-- Demands 2 and 3 as statements over the definitions of dealing and opening. Proved in proofs/Demand2 and proofs/Demand3.
 --
 -- Nothing is assumed of the secret and the random words but that dealing accepts them, and nothing of what is handed in but its
 -- length, its mask and its quorum: its words may be any numbers, also those of absent members.

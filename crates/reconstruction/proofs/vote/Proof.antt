@@ -1,6 +1,7 @@
 -- `reconstruction::vote` meets its contract.
 -- Assumes nothing.
 use mathlib.Core.Path.{_∙_}
+use native.Mathlib.Omega.{arith}
 use borrow.Author.Tests.{not-true, not-false}
 use Rattle.reconstruction.proofs.Voting.{by-tests, first-fails, second-fails, both-pass}
 use borrow.Author.Needs.{needs}
@@ -14,7 +15,7 @@ returns : tie.Need-returns
 returns c = by-tests _ _ _ _ _ _ _ _ (c .before .before .before .pre .1 .2) (first-fails _ _ _ _ _ (c .before .has .ensures) (not-true _ (c .if1 .taken)))
 
 accepted-requires : tie.Need-accepted-requires
-accepted-requires c κs = (c .before .before .before .pre .0, (c .before .before .before .pre .1 .0, c .before .before .before .pre .1 .1))
+accepted-requires c κs = (c .before .before .before .pre .0, omega (arith, c .before .before .before .pre .1))
 
 returns-2 : tie.Need-returns-2
 returns-2 c = by-tests _ _ _ _ _ _ _ _ (c .before .before .before .before .before .pre .1 .2) (second-fails _ _ _ _ _ (c .before .before .before .has .ensures) _ (not-false _ (c .before .before .if1 .left)) (c .before .accepted .ensures) (not-true _ (c .if2 .taken)))
