@@ -1,14 +1,16 @@
 -- Dealing by its checks: the first that fails refuses and leaves the buffer, and where all pass the shares are dealt.
 -- Assumes nothing.
-use mathlib.Core.Path.{_≡_, sym, _∙_}
+use mathlib.Core.Path.{_≡_, refl, sym, _∙_}
 use mathlib.Core.Bool.{Bool, true, false, not}
-use mathlib.Core.List.{List}
-use Prim.Native.Nat.{ℕ, _*_, _≤_}
+use mathlib.Core.List.{List, [], _∷_}
+use Prim.Native.Nat.{ℕ, _*_, _≤_, zero-le}
 use lib.Dec.{leb, eqb}
 use lib.ListN.{length}
 use borrow.Author.Tests.{not-true, not-false, leb-true}
 use Rattle.lists.specs.Tabulate.{each}
+use Rattle.lists.specs.Checks.{_unless_}
 use Rattle.lists.proofs.Bools.{and-right}
+use Rattle.lists.proofs.Checks.{number-fits}
 use Rattle.field.specs.Field.{isFieldWord}
 use Rattle.members.specs.Members.{isThreshold, size, ownPoints}
 use Rattle.shares.specs.Layout.{isLength, width}
@@ -65,3 +67,17 @@ module _ (t : ℕ) (secret random buffer : List ℕ) where
                 → record { number = 0; shares = shares } ≡ deal t secret random buffer
             unfolding deal
             dealt e₆ shares e = rw (e₁, e₂, e₃, e₄, e₅, e₆, e)
+
+-- the answer's number fits a word
+pub dealt-fits : (t : ℕ) (secret random buffer : List ℕ) → deal t secret random buffer .number ≤ 65535
+unfolding deal each
+dealt-fits t secret random buffer =
+    number-fits (refusal buffer) (λ a. a .number) (λ k. refl)
+    (1 unless isThreshold t
+    ∷ 2 unless isLength (length secret)
+    ∷ 3 unless eqb (length random) (randomLength t (length secret))
+    ∷ 4 unless eqb (length buffer) (size t * width t (length secret))
+    ∷ 5 unless each isFieldWord secret
+    ∷ 6 unless each isFieldWord random
+    ∷ [])
+    refl (record { number = 0; shares = dealtShares (ownPoints t) t secret random }) zero-le

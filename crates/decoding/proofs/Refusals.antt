@@ -1,16 +1,17 @@
 -- What decoding answers, by the checks that an input passes.
 -- Assumes nothing.
-use mathlib.Core.Path.{_≡_, ap, _∙_}
+use mathlib.Core.Path.{_≡_, refl, ap, _∙_}
 use mathlib.Core.Bool.{Bool, true, false, _||_, not}
+use mathlib.Core.Option.{Option, none, some}
 use mathlib.Core.List.{List, [], _∷_}
-use Prim.Native.Nat.{ℕ, suc, _+_, _*_, _≤_, _^_}
+use Prim.Native.Nat.{ℕ, suc, _+_, _*_, _≤_, _^_, zero-le}
 use native.Mathlib.Omega.{arith}
 use lib.Dec.{leb, eqb}
 use lib.ListN.{length, getD}
 use borrow.Author.Tests.{ltb-true, eqb-true}
-use Rattle.lists.specs.Tabulate.{all}
+use Rattle.lists.specs.Tabulate.{all, each}
 use Rattle.lists.specs.Checks.{Check, _unless_, checked}
-use Rattle.lists.proofs.Checks.{check-fails, check-passes}
+use Rattle.lists.proofs.Checks.{check-fails, check-passes, number-fits}
 use Rattle.field.specs.Field.{isFieldWord}
 use Rattle.members.specs.Members.{isThreshold, size, ownPoints, has, isSet, card, firstOf}
 use Rattle.members.proofs.Words.{size-le, size-of, firstOf-isSet}
@@ -96,6 +97,18 @@ module _ (t : ℕ) (values : List ℕ) (set len : ℕ) where
                   past-17
                   ∙ check-passes (undecoded len) 18 (all (size t) (judgedAt values set)) [] decoded words
                   ∙ ap (λ (n : ℕ). decodedFrom n (find (ownPoints t) t 1 (λ i k. getD values i 0) set)) (eqb-true len (suc t) room)
+
+  found-fits : (o : Option (List (List ℕ))) → decodedFrom len o .number ≤ 65535
+  unfolding decodedFrom undecoded
+  found-fits none = omega arith
+  found-fits (some fs) = zero-le
+
+  -- the answer's number fits a word
+  pub decoded-fits : decode t values set len .number ≤ 65535
+  unfolding decode undecoded each decoded check-11 check-19 check-12 check-17 check-18
+  decoded-fits =
+      number-fits (undecoded len) (λ a. a .number) (λ k. refl) (1 unless isThreshold t ∷ check-11) refl decoded
+      (found-fits (find (ownPoints t) t 1 (λ i k. getD values i 0) set))
 
 -- ---- the code's tests are these
 

@@ -9,4 +9,5 @@ pub mod Numerals
 pub mod Placing
 pub mod Reaching
 pub mod Reading
+pub mod Sound
 pub mod Taking

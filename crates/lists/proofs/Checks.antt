@@ -1,12 +1,16 @@
 -- Laws of checks in an order.
 -- Assumes nothing.
-use mathlib.Core.Path.{_≡_, ap}
+use mathlib.Core.Path.{_≡_, refl, ap}
 use mathlib.Core.Logic.{inl, inr}
 use mathlib.Core.Bool.{Bool, true, false}
-use mathlib.Core.List.{List, _∷_}
-use Prim.Native.Nat.{ℕ}
-use Rattle.lists.specs.Checks.{Check, _unless_, checked}
-use Rattle.lists.proofs.Bools.{test}
+use mathlib.Core.List.{List, [], _∷_}
+use Prim.Native.Nat.{ℕ, zero, suc, _≤_, _<_}
+use native.Mathlib.Omega.{arith}
+use borrow.Author.Tests.{ltb-true, leb-true}
+use lib.Dec.{leb, ltb}
+use Rattle.lists.specs.Checks.{Check, _unless_, checked, refusal}
+use Rattle.lists.specs.Tabulate.{each}
+use Rattle.lists.proofs.Bools.{test, and-left, and-right}
 
 module _ {A : Type 0} (refuse : ℕ → A) (number : ℕ) (passes : Bool) (later : List Check) (answer : A) where
   -- the first check fails
@@ -26,3 +30,36 @@ module _ {A : Type 0} (refuse : ℕ → A) (c : Check) (cs : List Check) (answer
         | inl e ↦ (e, rw e at h)
         | inr e ↦ absurd (other (rw e at h))
       ]
+
+module _ {A : Type 0} (refuse : ℕ → A) (number : A → ℕ) (tells : (k : ℕ) → number (refuse k) ≡ k) where
+  -- an answer with the number 0 has passed checks whose refusals have other numbers
+  pub all-passed : (cs : List Check) → each (λ c. ltb 0 (c .number)) cs ≡ true → (answer : A) → number (checked refuse cs answer) ≡ 0
+      → checked refuse cs answer ≡ answer
+  unfolding each
+  all-passed [] above answer h = refl
+  all-passed (c ∷ cs) above answer h =
+      at (c .passes) (ltb-true 0 (c .number) (and-left _ _ above)) (all-passed cs (and-right (ltb 0 (c .number)) _ above) answer) h
+    where
+      at : (b : Bool) → 0 < c .number → (number (checked refuse cs answer) ≡ 0 → checked refuse cs answer ≡ answer)
+          → number (elim b [ true ↦ checked refuse cs answer | false ↦ refuse (c .number) ]) ≡ 0
+          → elim b [ true ↦ checked refuse cs answer | false ↦ refuse (c .number) ] ≡ answer
+      at true low rest z = rest z
+      at false low rest z = absurd (omega (arith, tells (c .number)))
+
+  -- every refusal's number fits, so the answer's does
+  pub number-fits : (cs : List Check) → each (λ c. leb (c .number) 65535) cs ≡ true → (answer : A) → number answer ≤ 65535
+      → number (checked refuse cs answer) ≤ 65535
+  unfolding each
+  number-fits [] below answer h = h
+  number-fits (c ∷ cs) below answer h =
+      at (c .passes) (leb-true (c .number) 65535 (and-left _ _ below)) (number-fits cs (and-right (leb (c .number) 65535) _ below) answer h)
+    where
+      at : (b : Bool) → c .number ≤ 65535 → number (checked refuse cs answer) ≤ 65535
+          → number (elim b [ true ↦ checked refuse cs answer | false ↦ refuse (c .number) ]) ≤ 65535
+      at true high rest = rest
+      at false high rest = omega (arith, tells (c .number))
+
+-- a refusal's number that fits a word is the one that was given
+pub refusal-is : (k : ℕ) → refusal k ≤ 65535 → refusal k ≡ k
+refusal-is zero h = absurd (omega (arith, h))
+refusal-is (suc k) h = refl

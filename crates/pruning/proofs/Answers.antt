@@ -1,15 +1,15 @@
 -- What pruning answers, by the checks that an input passes.
 -- Assumes nothing.
-use mathlib.Core.Path.{_≡_, _∙_}
+use mathlib.Core.Path.{_≡_, refl, _∙_}
 use mathlib.Core.Bool.{true, false}
 use mathlib.Core.List.{List, [], _∷_}
-use Prim.Native.Nat.{ℕ}
+use Prim.Native.Nat.{ℕ, _≤_, zero-le}
 use lib.Dec.{eqb}
 use lib.ListN.{length}
 use borrow.Author.Tests.{eq-eqb, ne-eqb}
 use Rattle.lists.specs.Tabulate.{each}
 use Rattle.lists.specs.Checks.{Check, _unless_, checked}
-use Rattle.lists.proofs.Checks.{check-fails, check-passes}
+use Rattle.lists.proofs.Checks.{check-fails, check-passes, number-fits}
 use Rattle.members.specs.Members.{isThreshold, size, isSet}
 use Rattle.pruning.specs.Pruning.{Pruned, survivors, prune}
 
@@ -51,3 +51,10 @@ module _ (t : ℕ) (rows : List ℕ) where
       pub accepts : each (isSet (size t)) rows ≡ true → prune t rows ≡ record { number = 0; survivors = survivors t rows }
       unfolding left check-12
       accepts h = past-10 ∙ check-passes refuse 12 (each (isSet (size t)) rows) [] left h
+
+  -- the answer's number fits a word
+  pub pruned-fits : prune t rows .number ≤ 65535
+  unfolding prune each refuse left
+  pruned-fits =
+      number-fits refuse (λ a. a .number) (λ k. refl)
+      (1 unless isThreshold t ∷ 10 unless eqb (length rows) (size t) ∷ 12 unless each (isSet (size t)) rows ∷ []) refl left zero-le

@@ -4,6 +4,7 @@ pub mod ByWord
 pub mod Examples
 pub mod Halves
 pub mod Meaning
+pub mod Numbers
 pub mod Opening
 pub mod Order
 pub mod Places

@@ -2,7 +2,6 @@
 pub mod Digits
 pub mod Examples
 pub mod Lines
-pub mod Numbers
 pub mod Opening
 pub mod Reading
 pub mod Writing

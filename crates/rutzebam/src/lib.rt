@@ -1,0 +1,131 @@
+// The calls for programs in C and Rust, declared in include/rutzebam.h. Each has the contract of the call it makes: the number
+// that is returned is document 01's, 0 when it is done, and masks and numbers are stored in lent places.
+ghost use mathlib.Core.Path.{_≡_};
+ghost use lib.ListN.{length};
+ghost use Rattle.mac.specs.Tag.{tag as tagOf};
+ghost use Rattle.pruning.specs.Pruning.{prune};
+ghost use Rattle.decoding.specs.Decoding.{decode};
+ghost use Rattle.dealing.specs.Dealing.{deal};
+ghost use Rattle.reconstruction.specs.Reconstruction.{reconstruct};
+ghost use Rattle.handin.specs.Reader.{read};
+ghost use Rattle.rutzebam.specs.Calls.{dealt, opened, pruned, decoded, handIn};
+
+// Dealing.
+#[no_mangle]
+pub extern "C" fn rutzebam_deal(t: usize, secret: &[u16], random: &[u16], shares: &mut [u16]) -> u16
+    ensures { λ r. ⌜ dealt r (now (shares .exit)) ≡ deal t (now (secret .entry)) (now (random .entry)) (now (shares .entry)) ⌝ }
+{
+    match dealing::deal(t, secret, random, shares) {
+        dealing::Outcome::Dealt => 0,
+        dealing::Outcome::Refused(number) => number,
+    }
+}
+
+// Opening.
+#[no_mangle]
+pub extern "C" fn rutzebam_open(
+    t: usize,
+    present: u32,
+    quorum: u16,
+    shares: &[u16],
+    secret: &mut [u16],
+    survivors: &mut u32,
+    agreeing: &mut u32,
+) -> u16
+    ensures { λ r. ⌜ opened r (now (survivors .exit)) (now (agreeing .exit)) (now (secret .exit)) ≡ reconstruct t (length (now (secret .entry))) present quorum (now (shares .entry)) ⌝ }
+{
+    match reconstruction::reconstruct(t, present, quorum, shares, secret) {
+        reconstruction::Outcome::Open {
+            survivors: survived,
+            agreeing: agreed,
+        } => {
+            *survivors = survived;
+            *agreeing = agreed;
+            0
+        }
+        reconstruction::Outcome::Refused {
+            number,
+            survivors: left,
+        } => {
+            *survivors = left;
+            *agreeing = 0;
+            number
+        }
+    }
+}
+
+// Pruning.
+#[no_mangle]
+pub extern "C" fn rutzebam_prune(t: usize, rows: &[u32], survivors: &mut u32) -> u16
+    ensures { λ r. ⌜ pruned r (now (survivors .exit)) ≡ prune t (now (rows .entry)) ⌝ }
+{
+    match pruning::prune(t, rows) {
+        pruning::Survivors::Left(set) => {
+            *survivors = set;
+            0
+        }
+        pruning::Survivors::Refused(number) => {
+            *survivors = 0;
+            number
+        }
+    }
+}
+
+// Decoding.
+#[no_mangle]
+pub extern "C" fn rutzebam_decode(
+    t: usize,
+    values: &[u16],
+    set: u32,
+    coefficients: &mut [u16],
+) -> u16
+    ensures { λ r. ⌜ decoded r (now (coefficients .exit)) ≡ decode t (now (values .entry)) set (length (now (coefficients .entry))) ⌝ }
+{
+    match decoding::decode(t, values, set, coefficients) {
+        decoding::Outcome::Found => 0,
+        decoding::Outcome::Refused(number) => number,
+    }
+}
+
+// The tag of words; it refuses nothing.
+#[no_mangle]
+pub extern "C" fn rutzebam_tag(alpha: u16, beta: u16, words: &[u16]) -> u16
+    ensures { λ r. ⌜ r ≡ tagOf alpha beta (now (words .entry)) ⌝ }
+{
+    mac::tag(alpha, beta, words)
+}
+
+// The reader of hand-in text.
+#[no_mangle]
+pub extern "C" fn rutzebam_read(
+    text: &[u8],
+    words: &mut [u16],
+    t: &mut usize,
+    d: &mut usize,
+    quorum: &mut u16,
+    present: &mut u32,
+) -> u16
+    ensures { λ r. ⌜ handIn r (now (t .exit)) (now (d .exit)) (now (quorum .exit)) (now (present .exit)) (now (words .exit)) ≡ read (now (text .entry)) (length (now (words .entry))) ⌝ }
+{
+    match handin::read(text, words) {
+        handin::Outcome::Accepted {
+            t: threshold,
+            d: count,
+            quorum: asked,
+            present: met,
+        } => {
+            *t = threshold;
+            *d = count;
+            *quorum = asked;
+            *present = met;
+            0
+        }
+        handin::Outcome::Refused(number) => {
+            *t = 0;
+            *d = 0;
+            *quorum = 0;
+            *present = 0;
+            number
+        }
+    }
+}
