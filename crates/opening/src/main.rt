@@ -1,10 +1,31 @@
 // The program `opening`: hand-in text from standard input is opened, and the answer goes to standard output.
 use libc::STDIN_FILENO;
 use libc::STDOUT_FILENO;
+ghost use mathlib.Core.Path.{_≡_};
 ghost use lib.ListN.{length};
-ghost use Rattle.opening.specs.Input.{Inside};
+ghost use Rattle.opening.specs.Input.{Inside, stepOf};
 
-// How many bytes were read, or that a read failed, which is not the end of the input.
+// What one read comes to: it failed, the input has ended, or it put bytes at the start of its buffer.
+enum Step {
+    Failed,
+    End,
+    More(usize),
+}
+
+// What a read into the buffer answered. A failed read is not the end of the input.
+fn judge(got: isize, buffer: &[u8]) -> Step
+    ensures { λ r. ⌜ r ≡ stepOf got (length (now (buffer .entry))) ⌝ }
+{
+    if got < 0 {
+        return Step::Failed;
+    }
+    if got == 0 {
+        return Step::End;
+    }
+    Step::More(io::count(got, buffer))
+}
+
+// How many bytes were read until the input ended or the buffer was full, or that a read failed.
 enum Input {
     Bytes(usize),
     Failed,
@@ -17,14 +38,11 @@ fn read_input(text: &mut [u8]) -> Input
     let mut n = 0;
     while n < text.len() {
         let got = libc::read(STDIN_FILENO, &mut text[n..]);
-        if got < 0 {
-            return Input::Failed;
+        match judge(got, &text[n..]) {
+            Step::Failed => return Input::Failed,
+            Step::End => return Input::Bytes(n),
+            Step::More(count) => n += count,
         }
-        let more = io::count(got, &text[n..]);
-        if more == 0 {
-            return Input::Bytes(n);
-        }
-        n += more;
     }
     Input::Bytes(n)
 }
