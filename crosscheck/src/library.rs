@@ -247,3 +247,63 @@ pub fn read(call: &Read) -> (ReadAnswer, Damage) {
     };
     (answer, damage)
 }
+
+/// The calls without guards and copies, for measuring.
+pub mod plain {
+    pub fn deal(t: usize, secret: &[u16], random: &[u16], shares: &mut [u16]) -> u16 {
+        unsafe {
+            super::rutzebam_deal(
+                t,
+                secret.as_ptr(),
+                secret.len(),
+                random.as_ptr(),
+                random.len(),
+                shares.as_mut_ptr(),
+                shares.len(),
+            )
+        }
+    }
+
+    /// The refusal number, the survivors and the agreeing ones.
+    pub fn open(
+        t: usize,
+        present: u32,
+        quorum: u16,
+        shares: &[u16],
+        secret: &mut [u16],
+    ) -> (u16, u32, u32) {
+        let (mut survivors, mut agreeing) = (0, 0);
+        let number = unsafe {
+            super::rutzebam_open(
+                t,
+                present,
+                quorum,
+                shares.as_ptr(),
+                shares.len(),
+                secret.as_mut_ptr(),
+                secret.len(),
+                &mut survivors,
+                &mut agreeing,
+            )
+        };
+        (number, survivors, agreeing)
+    }
+
+    /// The refusal number and the present mask.
+    pub fn read(text: &[u8], words: &mut [u16]) -> (u16, u32) {
+        let (mut t, mut d, mut quorum, mut present) = (0, 0, 0, 0);
+        let number = unsafe {
+            super::rutzebam_read(
+                text.as_ptr(),
+                text.len(),
+                words.as_mut_ptr(),
+                words.len(),
+                &mut t,
+                &mut d,
+                &mut quorum,
+                &mut present,
+            )
+        };
+        (number, present)
+    }
+}

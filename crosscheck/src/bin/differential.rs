@@ -36,7 +36,7 @@ fn arguments() -> Result<(u64, End), String> {
 }
 
 /// About a minute's work on one core.
-const DEFAULT_CALLS: u64 = 100_000;
+const DEFAULT_CALLS: u64 = 1_500_000;
 
 /// Runs rounds until the end or the first difference.
 fn run(seed: u64, end: End) -> Ledger {

@@ -19,6 +19,8 @@ const KINDS: &[Kind] = &[
     other_polynomial,
     other_polynomial,
     scattered,
+    one_by_one,
+    struck_and_surviving,
     any_votes,
     accusers,
     colluders,
@@ -162,10 +164,15 @@ fn other_polynomial(round: &mut Round) {
     let movers_count = (need(t, s) - kept_count - short).min(s - kept_count);
     let kept = round.random.choose(handed.present, kept_count);
     let movers = round.random.choose(handed.present & !kept, movers_count);
-    let every = round.random.coin();
+    let style = round.random.below(3);
     let single = round.random.below(station.layout.d);
     for k in 0..station.layout.d {
-        if every || k == single {
+        let others = handed.present & !movers;
+        let kept = match style {
+            2 => round.random.choose(others, kept_count),
+            _ => kept,
+        };
+        if style != 1 || k == single {
             shift(&mut round.random, &mut handed, k, kept, movers);
         }
     }
@@ -200,6 +207,62 @@ fn scattered(round: &mut Round) {
     let answer = handed.open(round, "scattered alterations");
     if answer.number == 16 && each_word_decodes(&handed, answer.survivors) {
         round.ledger.note("open: 16 though each word alone decodes");
+    }
+}
+
+/// Each word takes one more member out of those who agree, up to half the surplus or one more.
+fn one_by_one(round: &mut Round) {
+    let t = round.some_t().max(2);
+    let d = round.some_d().max(t);
+    let station = Station::deal(round, t, d, Keys::Blind);
+    let mut handed = station.hand_in(&mut round.random);
+    let count = handed.surplus() / 2 + round.random.below(2);
+    let moved = round.random.choose(handed.present, count);
+    let mut places: Vec<usize> = (0..d).collect();
+    if round.random.coin() {
+        round.random.shuffle(&mut places);
+    }
+    for (i, k) in members(moved).into_iter().zip(places) {
+        handed.alter(&mut round.random, i, k);
+    }
+    let number = handed.open(round, "one member a word").number;
+    if count > 1 {
+        round.ledger.note(match number {
+            0 => "open: one altered member a word, opened",
+            _ => "open: one altered member a word, 16",
+        });
+    }
+}
+
+/// Some altered members fail the votes, the others survive around half of what is left over.
+fn struck_and_surviving(round: &mut Round) {
+    let t = round.some_t().max(2);
+    let d = round.some_d();
+    let station = Station::deal(round, t, d, Keys::Random);
+    let mut handed = station.hand_in(&mut round.random);
+    let struck_count = round.random.within(0, handed.surplus());
+    let struck = round.random.choose(handed.present, struck_count);
+    let half = (handed.surplus() - struck_count) / 2;
+    let moved_count = half + round.random.below(2);
+    let moved = round.random.choose(handed.present & !struck, moved_count);
+    for i in members(struck | moved) {
+        let k = round.random.below(d);
+        handed.alter(&mut round.random, i, k);
+    }
+    handed.forge(moved, station.everybody());
+    for i in members(struck) {
+        let votes = round.random.within(0, t);
+        let friends = round.random.choose(station.everybody(), votes);
+        handed.forge(1 << (i - 1), friends);
+        for j in members(station.everybody() & !friends) {
+            handed.spoil(&mut round.random, i, j);
+        }
+    }
+    let answer = handed.open(round, "some struck, some surviving");
+    if answer.number == 0 && struck != 0 && moved != 0 {
+        round
+            .ledger
+            .note("open: altered ones struck, altered ones survive, opened");
     }
 }
 
