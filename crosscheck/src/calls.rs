@@ -1,0 +1,282 @@
+//! The library's calls and their answers as plain data, and how each side answers them.
+
+use std::fmt;
+
+use crate::library;
+use crate::reference::decoding::{decode, Way};
+use crate::reference::pruning::prune;
+use crate::reference::sharing::{deal, open, tag};
+use crate::reference::text::read;
+
+/// What the library did beside its answer: a lent input changed, or a word beside a buffer.
+pub type Damage = Vec<&'static str>;
+
+/// A call with all that it is lent, each buffer as it is before the call.
+pub trait Call: fmt::Debug {
+    type Answer: fmt::Debug + PartialEq;
+    const NAME: &'static str;
+
+    fn by_reference(&self) -> Self::Answer;
+    fn by_library(&self) -> (Self::Answer, Damage);
+    /// The refusal number, where the call has one.
+    fn number(answer: &Self::Answer) -> Option<u16>;
+    /// The other implementation's second way, where it has one and it is not too long.
+    fn second_way(&self, _patient: bool) -> Option<Self::Answer> {
+        None
+    }
+}
+
+#[derive(Clone, Debug)]
+pub struct Deal {
+    pub t: usize,
+    pub secret: Vec<u16>,
+    pub random: Vec<u16>,
+    pub shares: Vec<u16>,
+}
+
+#[derive(Clone, Debug, PartialEq, Eq)]
+pub struct Dealt {
+    pub number: u16,
+    pub shares: Vec<u16>,
+}
+
+impl Call for Deal {
+    type Answer = Dealt;
+    const NAME: &'static str = "deal";
+
+    fn by_reference(&self) -> Dealt {
+        let mut shares = self.shares.clone();
+        let number = deal(self.t, &self.secret, &self.random, &mut shares);
+        Dealt { number, shares }
+    }
+
+    fn by_library(&self) -> (Dealt, Damage) {
+        library::deal(self)
+    }
+
+    fn number(answer: &Dealt) -> Option<u16> {
+        Some(answer.number)
+    }
+}
+
+#[derive(Clone, Debug)]
+pub struct Open {
+    pub t: usize,
+    pub present: u32,
+    pub quorum: u16,
+    pub shares: Vec<u16>,
+    pub secret: Vec<u16>,
+    pub survivors: u32,
+    pub agreeing: u32,
+}
+
+#[derive(Clone, Debug, PartialEq, Eq)]
+pub struct Opened {
+    pub number: u16,
+    pub secret: Vec<u16>,
+    pub survivors: u32,
+    pub agreeing: u32,
+}
+
+impl Open {
+    fn by(&self, way: Way) -> Opened {
+        let mut secret = self.secret.clone();
+        let opening = open(
+            self.t,
+            self.present,
+            self.quorum,
+            &self.shares,
+            &mut secret,
+            way,
+        );
+        Opened {
+            number: opening.number,
+            secret,
+            survivors: opening.survivors,
+            agreeing: opening.agreeing,
+        }
+    }
+}
+
+impl Call for Open {
+    type Answer = Opened;
+    const NAME: &'static str = "open";
+
+    fn by_reference(&self) -> Opened {
+        self.by(Way::Elimination)
+    }
+
+    fn by_library(&self) -> (Opened, Damage) {
+        library::open(self)
+    }
+
+    fn number(answer: &Opened) -> Option<u16> {
+        Some(answer.number)
+    }
+
+    fn second_way(&self, patient: bool) -> Option<Opened> {
+        searched(self.t, patient).then(|| self.by(Way::Subsets))
+    }
+}
+
+/// Whether all subsets are tried: always for small t, for some larger ones now and then.
+fn searched(t: usize, patient: bool) -> bool {
+    t <= 3 || (t <= 5 && patient)
+}
+
+#[derive(Clone, Debug)]
+pub struct Prune {
+    pub t: usize,
+    pub rows: Vec<u32>,
+    pub survivors: u32,
+}
+
+#[derive(Clone, Debug, PartialEq, Eq)]
+pub struct Pruned {
+    pub number: u16,
+    pub survivors: u32,
+}
+
+impl Call for Prune {
+    type Answer = Pruned;
+    const NAME: &'static str = "prune";
+
+    fn by_reference(&self) -> Pruned {
+        let (number, survivors) = prune(self.t, &self.rows);
+        Pruned { number, survivors }
+    }
+
+    fn by_library(&self) -> (Pruned, Damage) {
+        library::prune(self)
+    }
+
+    fn number(answer: &Pruned) -> Option<u16> {
+        Some(answer.number)
+    }
+}
+
+#[derive(Clone, Debug)]
+pub struct Decode {
+    pub t: usize,
+    pub values: Vec<u16>,
+    pub set: u32,
+    pub coefficients: Vec<u16>,
+}
+
+#[derive(Clone, Debug, PartialEq, Eq)]
+pub struct Decoded {
+    pub number: u16,
+    pub coefficients: Vec<u16>,
+}
+
+impl Decode {
+    fn by(&self, way: Way) -> Decoded {
+        let mut coefficients = self.coefficients.clone();
+        let number = decode(self.t, &self.values, self.set, &mut coefficients, way);
+        Decoded {
+            number,
+            coefficients,
+        }
+    }
+}
+
+impl Call for Decode {
+    type Answer = Decoded;
+    const NAME: &'static str = "decode";
+
+    fn by_reference(&self) -> Decoded {
+        self.by(Way::Elimination)
+    }
+
+    fn by_library(&self) -> (Decoded, Damage) {
+        library::decode(self)
+    }
+
+    fn number(answer: &Decoded) -> Option<u16> {
+        Some(answer.number)
+    }
+
+    fn second_way(&self, patient: bool) -> Option<Decoded> {
+        searched(self.t, patient).then(|| self.by(Way::Subsets))
+    }
+}
+
+#[derive(Clone, Debug)]
+pub struct Tag {
+    pub alpha: u16,
+    pub beta: u16,
+    pub words: Vec<u16>,
+}
+
+impl Call for Tag {
+    type Answer = u16;
+    const NAME: &'static str = "tag";
+
+    fn by_reference(&self) -> u16 {
+        tag(self.alpha, self.beta, &self.words)
+    }
+
+    fn by_library(&self) -> (u16, Damage) {
+        library::tag(self)
+    }
+
+    fn number(_: &u16) -> Option<u16> {
+        None
+    }
+}
+
+/// A text, shown with its tabs and line ends written out.
+#[derive(Clone)]
+pub struct Text(pub Vec<u8>);
+
+impl fmt::Debug for Text {
+    fn fmt(&self, f: &mut fmt::Formatter<'_>) -> fmt::Result {
+        write!(f, "{} bytes \"{}\"", self.0.len(), self.0.escape_ascii())
+    }
+}
+
+#[derive(Clone, Debug)]
+pub struct Read {
+    pub text: Text,
+    pub words: Vec<u16>,
+    pub t: usize,
+    pub d: usize,
+    pub quorum: u16,
+    pub present: u32,
+}
+
+#[derive(Clone, Debug, PartialEq, Eq)]
+pub struct ReadAnswer {
+    pub number: u16,
+    pub words: Vec<u16>,
+    pub t: usize,
+    pub d: usize,
+    pub quorum: u16,
+    pub present: u32,
+}
+
+impl Call for Read {
+    type Answer = ReadAnswer;
+    const NAME: &'static str = "read";
+
+    fn by_reference(&self) -> ReadAnswer {
+        let mut words = self.words.clone();
+        let reading = read(&self.text.0, &mut words);
+        ReadAnswer {
+            number: reading.number,
+            words,
+            t: reading.t,
+            d: reading.d,
+            quorum: reading.quorum,
+            present: reading.present,
+        }
+    }
+
+    fn by_library(&self) -> (ReadAnswer, Damage) {
+        library::read(self)
+    }
+
+    fn number(answer: &ReadAnswer) -> Option<u16> {
+        Some(answer.number)
+    }
+}

@@ -1,0 +1,101 @@
+//! The cases. A round is one seed's run of a fixed list of generators.
+
+pub mod dealing;
+pub mod decoding;
+pub mod opening;
+pub mod orders;
+pub mod pruning;
+pub mod reading;
+pub mod station;
+pub mod tags;
+
+use crate::compare::Ledger;
+use crate::random::Random;
+
+/// What a generator works with: its own random numbers and the round's sizes.
+pub struct Round<'a> {
+    pub random: Random,
+    pub ledger: &'a mut Ledger,
+    /// The round's t and d; all of them come up in turn.
+    pub t: usize,
+    pub d: usize,
+}
+
+type Generator = fn(&mut Round);
+
+const GENERATORS: &[Generator] = &[
+    dealing::all,
+    opening::all,
+    pruning::all,
+    decoding::all,
+    tags::all,
+    reading::all,
+    orders::all,
+];
+
+/// Runs all generators for one seed.
+pub fn round(seed: u64, ledger: &mut Ledger) {
+    ledger.seed = seed;
+    for (place, generator) in GENERATORS.iter().enumerate() {
+        let mut random = Random::new(seed.wrapping_mul(64).wrapping_add(place as u64));
+        random.draw();
+        generator(&mut Round {
+            random,
+            ledger,
+            t: 1 + (seed % 15) as usize,
+            d: 1 + (seed % 64) as usize,
+        });
+    }
+}
+
+impl Round<'_> {
+    /// A t: the round's, an end of the range, a small one or any.
+    pub fn some_t(&mut self) -> usize {
+        match self.random.below(6) {
+            0 | 1 => self.t,
+            2 => self.random.pick(&[1, 15]),
+            3 | 4 => self.random.within(1, 5),
+            _ => self.random.within(1, 15),
+        }
+    }
+
+    /// A d: the round's, an end of the range, a small one or any.
+    pub fn some_d(&mut self) -> usize {
+        match self.random.below(8) {
+            0 => self.d,
+            1 => self.random.pick(&[1, 64]),
+            2 => self.random.within(1, 64),
+            _ => self.random.within(1, 6),
+        }
+    }
+
+    /// A length worth trying where `exact` is right.
+    pub fn length(&mut self, n: usize, exact: usize) -> usize {
+        let tried = [
+            0,
+            1,
+            n - 1,
+            n,
+            n + 1,
+            63,
+            64,
+            65,
+            4866,
+            4867,
+            4868,
+            exact.saturating_sub(1),
+            exact,
+            exact,
+            exact + 1,
+        ];
+        self.random.pick(&tried)
+    }
+
+    /// A t outside 1..15, also ones that are good when cut to fewer bits.
+    pub fn bad_t(&mut self) -> usize {
+        let good = self.random.within(1, 15);
+        let shift = self.random.pick(&[4, 5, 8, 16, 31, 32, 48, 63]);
+        self.random
+            .pick(&[0, 16, 17, 31, 32, usize::MAX, good + (1 << shift)])
+    }
+}

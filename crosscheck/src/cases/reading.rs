@@ -1,0 +1,442 @@
+//! Hand-in texts: good ones in any order, and every kind of damage to lines and numerals.
+
+use super::Round;
+use crate::calls::{Read, ReadAnswer, Text};
+use crate::random::Random;
+use crate::reference::sharing::Layout;
+
+/// A text as lines of fields, and what follows the last line end.
+#[derive(Clone)]
+struct Page {
+    layout: Layout,
+    lines: Vec<Vec<Vec<u8>>>,
+    tail: Vec<u8>,
+}
+
+impl Page {
+    fn bytes(&self) -> Vec<u8> {
+        let mut text = Vec::new();
+        for line in &self.lines {
+            text.extend(line.join(&b'\t'));
+            text.push(b'\n');
+        }
+        text.extend(&self.tail);
+        text
+    }
+}
+
+/// The two faults whose order the reader keeps, as they are named in the outcomes.
+pub const ORDERS: &[&str] = &[
+    "25 goes before 21",
+    "25 goes before 22",
+    "25 goes before 23",
+    "25 goes before 24",
+    "21 goes before 22",
+    "21 goes before 23",
+    "21 goes before 24",
+    "22 goes before 23",
+    "22 goes before 24",
+    "23 goes before 24 on one line",
+    "23 on a line before 24",
+    "24 on a line before 23",
+];
+
+pub fn all(round: &mut Round) {
+    for _ in 0..4 {
+        good(round);
+        first_lines(round);
+        share_lines(round);
+        share_lines(round);
+        member_faults(round);
+        ends(round);
+        edits(round);
+        edits(round);
+    }
+    longest_good(round);
+    long(round);
+    lengths(round);
+    orders(round);
+}
+
+fn numeral(number: usize) -> Vec<u8> {
+    number.to_string().into_bytes()
+}
+
+/// A word of any count of digits, each border included.
+fn some_numeral(random: &mut Random) -> Vec<u8> {
+    let any = random.word() as usize;
+    let width = random.within(0, 4) as u32;
+    let tried = [0, 9, 10, 65520, 65521, 65535, 60000, 59999, 10000, 9999];
+    let short = any % 10usize.pow(width);
+    let border = random.pick(&tried);
+    numeral(random.pick(&[any, any, short, short, border]))
+}
+
+/// A good text with lines for some members.
+fn page(random: &mut Random, t: usize, d: usize) -> Page {
+    let layout = Layout::new(t, d);
+    let mut order: Vec<usize> = (1..=layout.n).collect();
+    random.shuffle(&mut order);
+    let count = random.within(0, layout.n);
+    order.truncate(random.pick(&[count, count, layout.n, 1]));
+    let first = vec![b"D".to_vec(), numeral(t), numeral(d), some_numeral(random)];
+    let mut lines = vec![first];
+    for i in order {
+        let mut line = vec![b"P".to_vec(), numeral(i)];
+        line.extend((0..layout.width()).map(|_| some_numeral(random)));
+        lines.push(line);
+    }
+    Page {
+        layout,
+        lines,
+        tail: Vec::new(),
+    }
+}
+
+fn some_page(round: &mut Round) -> Page {
+    let (t, d) = match round.random.once_in(6) {
+        true => (round.some_t(), round.some_d()),
+        false => (round.random.within(1, 3), round.random.within(1, 4)),
+    };
+    page(&mut round.random, t, d)
+}
+
+/// A page with at least `count` share lines.
+fn page_with(round: &mut Round, count: usize) -> Page {
+    loop {
+        let page = some_page(round);
+        if page.lines.len() > count {
+            return page;
+        }
+    }
+}
+
+fn submit(round: &mut Round, kind: &str, text: Vec<u8>, room: usize) -> (Read, ReadAnswer) {
+    let call = Read {
+        text: Text(text),
+        words: round.random.words(room),
+        t: round.random.draw() as usize,
+        d: round.random.draw() as usize,
+        quorum: round.random.word(),
+        present: round.random.mask(),
+    };
+    let answer = round.ledger.compare(kind, &call);
+    (call, answer)
+}
+
+/// Reads a text whose number is known.
+fn expect(round: &mut Round, kind: &str, text: Vec<u8>, room: usize, number: u16) {
+    let (call, answer) = submit(round, kind, text, room);
+    let right = answer.number == number;
+    let what = format!("{number} expected");
+    round.ledger.demand(right, kind, &call, &what, &answer);
+}
+
+fn good(round: &mut Round) {
+    let page = some_page(round);
+    let shares = page.lines.len() - 1;
+    if shares == 0 {
+        round.ledger.note("read: good with no share");
+    }
+    if shares == page.layout.n {
+        round.ledger.note("read: good with all shares");
+    }
+    expect(round, "good text", page.bytes(), 4867, 0);
+}
+
+/// The longest good text there is.
+fn longest_good(round: &mut Round) {
+    let mut page = page(&mut round.random, 15, 64);
+    for line in page.lines.iter_mut().skip(1) {
+        for field in line.iter_mut().skip(2) {
+            *field = numeral(round.random.within(10000, 65535));
+        }
+    }
+    page.lines[0][3] = numeral(round.random.within(10000, 65535));
+    if page.bytes().len() == 29362 {
+        round.ledger.note("read: the longest good text");
+    }
+    expect(round, "longest good text", page.bytes(), 4867, 0);
+}
+
+/// Names of the kinds of damage that spoil a line's shape.
+pub const DAMAGES: &[&str] = &[
+    "leading zero",
+    "65536",
+    "65537 to 99999",
+    "six digits",
+    "six digits with leading zeros",
+    "empty field",
+    "field too many",
+    "field missing",
+    "double tab",
+    "small letter",
+    "other letter",
+    "carriage return",
+    "space or sign",
+    "stray byte in a numeral",
+    "letter in a numeral",
+    "trailing tab",
+    "letter doubled",
+    "leading tab",
+    "blank line",
+    "00",
+];
+
+/// Spoils a line's shape in the way of that place in the list.
+fn damage(random: &mut Random, line: &mut Vec<Vec<u8>>, way: usize) {
+    let place = random.within(1, line.len() - 1);
+    let place = random.pick(&[place, line.len() - 1, 1]);
+    match way {
+        0 => line[place].insert(0, b'0'),
+        1 => line[place] = b"65536".to_vec(),
+        2 => line[place] = numeral(random.within(65537, 99999)),
+        3 => line[place] = numeral(random.within(100000, 999999)),
+        4 => line[place] = format!("{:06}", random.below(65536)).into_bytes(),
+        5 => line[place].clear(),
+        6 => line.push(b"1".to_vec()),
+        7 => drop(line.pop()),
+        8 => line.insert(place, Vec::new()),
+        15 => line.push(Vec::new()),
+        17 => line.insert(0, Vec::new()),
+        18 => *line = vec![Vec::new()],
+        19 => line[place] = b"00".to_vec(),
+        9 | 10 | 16 => letter_damage(random, &mut line[0], way),
+        _ => byte_damage(random, line, place, way),
+    }
+}
+
+fn letter_damage(random: &mut Random, field: &mut Vec<u8>, way: usize) {
+    match way {
+        9 => field.make_ascii_lowercase(),
+        10 => {
+            let other = if field == b"D" { b'P' } else { b'D' };
+            field[0] = random.pick(&[other, b'A', b'Q', 0, 0xff]);
+        }
+        _ => field.push(field[0]),
+    }
+}
+
+fn byte_damage(random: &mut Random, line: &mut [Vec<u8>], place: usize, way: usize) {
+    let last = line.len() - 1;
+    let byte = match way {
+        11 => b'\r',
+        12 => random.pick(b" +-._"),
+        13 => random.pick(&[0, 8, 11, 12, b'/', b':', b'a', 0x7f, 0x80, 0xb5, 0xff]),
+        _ => random.pick(b"DP"),
+    };
+    let field = if way == 11 {
+        &mut line[last]
+    } else {
+        &mut line[place]
+    };
+    let at = match (way, random.coin()) {
+        (11, _) | (_, true) => field.len(),
+        _ => random.within(0, field.len()),
+    };
+    if way > 11 && at < field.len() && random.coin() {
+        field[at] = byte;
+    } else {
+        field.insert(at, byte);
+    }
+}
+
+/// Damage to the first line: shape, t or d.
+fn first_lines(round: &mut Round) {
+    let mut page = some_page(round);
+    let way = round.random.below(DAMAGES.len() + 2);
+    let line = &mut page.lines[0];
+    if way < DAMAGES.len() {
+        damage(&mut round.random, line, way);
+        let name = DAMAGES[way];
+        round.ledger.note(format!("read: first line, {name}"));
+    } else if way == DAMAGES.len() {
+        line[1] = round.random.pick(&[0, 16, 17, 65535]).to_string().into();
+        round.ledger.note("read: first line, t outside");
+    } else {
+        line[2] = round.random.pick(&[0, 65, 128, 65535]).to_string().into();
+        round.ledger.note("read: first line, d outside");
+    }
+    expect(round, "first line spoilt", page.bytes(), 4867, 22);
+}
+
+/// Damage to a share line's shape.
+fn share_lines(round: &mut Round) {
+    let mut page = page_with(round, 1);
+    let way = round.random.below(DAMAGES.len());
+    let line = round.random.within(1, page.lines.len() - 1);
+    damage(&mut round.random, &mut page.lines[line], way);
+    let name = DAMAGES[way];
+    round.ledger.note(format!("read: share line, {name}"));
+    expect(round, "share line spoilt", page.bytes(), 4867, 23);
+}
+
+/// Gives a share line a member that is outside 1..n or was met before.
+fn wrong_member(random: &mut Random, page: &mut Page, line: usize) -> &'static str {
+    let n = page.layout.n;
+    let before: Vec<Vec<u8>> = page.lines[1..line].iter().map(|l| l[1].clone()).collect();
+    let (name, member) = match random.below(4) {
+        0 => ("0", numeral(0)),
+        1 => ("n + 1", numeral(n + 1)),
+        2 => {
+            let any = random.within(n + 1, 65535);
+            ("far outside", numeral(random.pick(&[32, 33, 65535, any])))
+        }
+        _ if before.is_empty() => ("0", numeral(0)),
+        _ => {
+            let place = random.below(before.len());
+            ("met before", before[place].clone())
+        }
+    };
+    page.lines[line][1] = member;
+    name
+}
+
+fn member_faults(round: &mut Round) {
+    let mut page = page_with(round, 2);
+    let line = round.random.within(1, page.lines.len() - 1);
+    let name = wrong_member(&mut round.random, &mut page, line);
+    round.ledger.note(format!("read: member {name}"));
+    expect(round, "wrong member", page.bytes(), 4867, 24);
+}
+
+/// Names of what can stand at a text's end.
+pub const ENDS: &[&str] = &[
+    "no last line end",
+    "a blank line",
+    "bytes after the end",
+    "a carriage return",
+    "no line end at all",
+    "empty",
+    "one line end",
+];
+
+fn ends(round: &mut Round) {
+    let page = page_with(round, 1);
+    let mut text = page.bytes();
+    let way = round.random.below(ENDS.len());
+    let number = match way {
+        0 => {
+            text.pop();
+            23
+        }
+        1 => {
+            text.push(b'\n');
+            23
+        }
+        2 => {
+            text.push(round.random.pick(b"DP\t0\0"));
+            23
+        }
+        3 => {
+            text.insert(text.len() - 1, b'\r');
+            23
+        }
+        4 => {
+            let end = text.iter().position(|b| *b == b'\n').unwrap_or(0);
+            text.truncate(end);
+            22
+        }
+        5 => {
+            text.clear();
+            22
+        }
+        _ => {
+            text = vec![b'\n'];
+            22
+        }
+    };
+    round.ledger.note(format!("read: {}", ENDS[way]));
+    expect(round, "ends of a text", text, 4867, number);
+}
+
+/// A few bytes changed, put in or taken out anywhere.
+fn edits(round: &mut Round) {
+    let mut text = some_page(round).bytes();
+    let random = &mut round.random;
+    for _ in 0..random.within(1, 3) {
+        let place = random.below(text.len());
+        let any = random.word() as u8;
+        let byte = random.pick(&[b'\t', b'\n', b'0', b'7', b'D', b'P', any]);
+        match random.below(4) {
+            0 => text.insert(place, byte),
+            1 if text.len() > 1 => drop(text.remove(place)),
+            2 => text.truncate(place.max(1)),
+            _ => text[place] = byte,
+        }
+    }
+    submit(round, "edited text", text, 4867);
+}
+
+/// Texts as long as allowed and longer.
+fn long(round: &mut Round) {
+    for size in [40000, 40001, 40002, 66000] {
+        let start = some_page(round).bytes();
+        let mut text = match round.random.below(3) {
+            0 => Vec::new(),
+            _ => start.clone(),
+        };
+        let filler = match round.random.below(4) {
+            0 => b"0".to_vec(),
+            1 => b"\n".to_vec(),
+            2 => round.random.words(7).iter().map(|w| *w as u8).collect(),
+            _ => start,
+        };
+        while text.len() < size {
+            text.extend(&filler);
+        }
+        text.truncate(size);
+        let (call, answer) = submit(round, "long text", text, 4867);
+        let right = (answer.number == 21) == (size > 40000);
+        let what = "21 just above 40000 bytes";
+        round
+            .ledger
+            .demand(right, "long text", &call, what, &answer);
+        round.ledger.note(format!("read: {size} bytes"));
+    }
+}
+
+/// Buffers of any length.
+fn lengths(round: &mut Round) {
+    for room in [0, 1, 30, 63, 64, 65, 4866, 4868, 5000] {
+        let page = some_page(round);
+        expect(round, "any buffer", page.bytes(), room, 25);
+    }
+}
+
+/// Texts with two faults.
+fn orders(round: &mut Round) {
+    for (way, name) in ORDERS.iter().enumerate() {
+        let mut page = page_with(round, 2);
+        let last = page.lines.len() - 1;
+        let (spoilt, wrong) = match way {
+            10 => (last - 1, last),
+            11 => (last, last - 1),
+            _ => (last, last),
+        };
+        let some_way = round.random.below(DAMAGES.len());
+        // Damage that leaves the member's field in place keeps both faults on one line.
+        let kept = round.random.pick(&[6, 7, 15]);
+        if matches!(way, 3 | 6 | 8 | 9 | 10 | 11) {
+            wrong_member(&mut round.random, &mut page, wrong);
+        }
+        if matches!(way, 2 | 5 | 7 | 9 | 10 | 11) {
+            let which = if way == 9 { kept } else { some_way };
+            damage(&mut round.random, &mut page.lines[spoilt], which);
+        }
+        if matches!(way, 1 | 4 | 7 | 8) {
+            damage(&mut round.random, &mut page.lines[0], some_way);
+        }
+        let mut text = page.bytes();
+        if matches!(way, 0 | 4..=6) {
+            while text.len() <= 40000 {
+                let more = page.bytes();
+                text.extend(more);
+            }
+        }
+        let room = if way < 4 { 4868 - 2 * (way % 2) } else { 4867 };
+        let number = name[..2].parse().unwrap_or(0);
+        expect(round, "two faults", text, room, number);
+        round.ledger.note(format!("read: {name}"));
+    }
+}

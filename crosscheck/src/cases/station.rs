@@ -1,0 +1,258 @@
+//! A dealt station, and what its members hand in: alterations and the check of the demands.
+
+use super::Round;
+use crate::calls::{Deal, Open, Opened};
+use crate::random::Random;
+use crate::reference::sharing::{random_words, same_share, usable, Layout};
+use crate::reference::{everybody, members};
+
+/// How the keys of a dealing are made.
+#[derive(Clone, Copy, Debug, PartialEq, Eq)]
+pub enum Keys {
+    Random,
+    Zero,
+    /// Alpha 0 only: tags do not depend on the words, any alteration passes.
+    Blind,
+}
+
+/// A dealing.
+pub struct Station {
+    pub t: usize,
+    pub layout: Layout,
+    pub secret: Vec<u16>,
+    pub shares: Vec<u16>,
+}
+
+impl Station {
+    /// Deals by both sides and keeps the answer.
+    pub fn deal(round: &mut Round, t: usize, d: usize, keys: Keys) -> Station {
+        let layout = Layout::new(t, d);
+        let random = random_for(&mut round.random, t, d, keys);
+        let call = Deal {
+            t,
+            secret: round.random.fields(d),
+            random,
+            shares: round.random.words(layout.total()),
+        };
+        let dealt = round.ledger.compare("dealing for an opening", &call);
+        Station {
+            t,
+            layout,
+            secret: call.secret,
+            shares: dealt.shares,
+        }
+    }
+
+    /// A station of some size and kind of keys.
+    pub fn some(round: &mut Round) -> Station {
+        let (t, d) = (round.some_t(), round.some_d());
+        let keys = round
+            .random
+            .pick(&[Keys::Random, Keys::Random, Keys::Zero, Keys::Blind]);
+        Station::deal(round, t, d, keys)
+    }
+
+    /// A station of some size with keys of the given kind.
+    pub fn deal_some(round: &mut Round, keys: Keys) -> Station {
+        let (t, d) = (round.some_t(), round.some_d());
+        Station::deal(round, t, d, keys)
+    }
+
+    pub fn everybody(&self) -> u32 {
+        everybody(self.layout.n)
+    }
+
+    /// The shares as dealt, handed in by some members, at least t + 1 of them.
+    pub fn hand_in(&self, random: &mut Random) -> Handed<'_> {
+        let n = self.layout.n;
+        let count = match random.below(4) {
+            0 | 1 => n,
+            2 => random.within(self.t + 1, n),
+            _ => random.within(self.t + 1, (self.t + 3).min(n)),
+        };
+        Handed {
+            station: self,
+            shares: self.shares.clone(),
+            present: random.choose(self.everybody(), count),
+            quorum: 0,
+        }
+    }
+}
+
+fn random_for(random: &mut Random, t: usize, d: usize, keys: Keys) -> Vec<u16> {
+    let mut words = random.fields(random_words(t, d));
+    if random.once_in(12) {
+        words[..t * d].fill(0);
+    }
+    let key_words = words[t * d..].iter_mut().enumerate();
+    for (place, word) in key_words {
+        let blind = keys == Keys::Blind && place % 2 == 0;
+        if blind || keys == Keys::Zero {
+            *word = 0;
+        }
+    }
+    words
+}
+
+/// What is handed in for a station.
+#[derive(Clone)]
+pub struct Handed<'a> {
+    pub station: &'a Station,
+    pub shares: Vec<u16>,
+    pub present: u32,
+    pub quorum: u16,
+}
+
+impl Handed<'_> {
+    pub fn layout(&self) -> Layout {
+        self.station.layout
+    }
+
+    /// How many more than t + 1 are present.
+    pub fn surplus(&self) -> usize {
+        self.present.count_ones() as usize - (self.station.t + 1)
+    }
+
+    /// Gives member `i`'s share word `k` another value.
+    pub fn alter(&mut self, random: &mut Random, i: usize, k: usize) {
+        let place = self.layout().word(i, k);
+        self.shares[place] = random.other(self.shares[place]);
+    }
+
+    /// Makes the members' tags pass the keys that the judges hand in.
+    pub fn forge(&mut self, of: u32, judges: u32) {
+        let layout = self.layout();
+        for i in members(of) {
+            for j in members(judges) {
+                self.shares[layout.tag(i, j)] = layout.asked(&self.shares, i, j);
+            }
+        }
+    }
+
+    /// Makes tag(i, j) fail.
+    pub fn spoil(&mut self, random: &mut Random, i: usize, j: usize) {
+        let layout = self.layout();
+        let asked = layout.asked(&self.shares, i, j);
+        self.shares[layout.tag(i, j)] = random.other(asked);
+    }
+
+    pub fn usable(&self) -> u32 {
+        usable(self.layout(), self.present, &self.shares)
+    }
+
+    /// Opens by both sides, checks the demands and notes the classes.
+    pub fn open(&self, round: &mut Round, kind: &str) -> Opened {
+        let call = Open {
+            t: self.station.t,
+            present: self.present,
+            quorum: self.quorum,
+            shares: self.shares.clone(),
+            secret: round.random.words(self.layout().d),
+            survivors: round.random.mask(),
+            agreeing: round.random.mask(),
+        };
+        let answer = round.ledger.compare(kind, &call);
+        if matches!(answer.number, 0 | 15 | 16) {
+            self.check_demands(round, kind, &call, &answer);
+            self.note(round, &answer);
+        }
+        answer
+    }
+
+    fn as_dealt(&self) -> u32 {
+        let layout = self.layout();
+        let kept =
+            |i: &usize| same_share(layout, &self.shares, &self.station.shares, self.present, *i);
+        (1..=layout.n)
+            .filter(kept)
+            .fold(0, |set, i| set | 1 << (i - 1))
+    }
+
+    /// The members of the set with at least one share word that is not the dealt one.
+    fn altered(&self, set: u32) -> u32 {
+        let layout = self.layout();
+        let moved =
+            |i: &usize| layout.words(&self.shares, *i) != layout.words(&self.station.shares, *i);
+        let moved = members(set).into_iter().filter(moved);
+        moved.fold(0, |set, i| set | 1 << (i - 1))
+    }
+
+    /// With t + 1 shares as dealt: all of those survive; and if at most half the surplus of the
+    /// survivors have altered share words, the dealt secret is opened.
+    fn check_demands(&self, round: &mut Round, kind: &str, call: &Open, answer: &Opened) {
+        let honest = self.as_dealt();
+        if (honest.count_ones() as usize) < self.station.t + 1 {
+            return;
+        }
+        round.ledger.note("open: demand 3 checked");
+        let kept = answer.survivors & honest == honest;
+        round
+            .ledger
+            .demand(kept, kind, call, "a share as dealt is struck", answer);
+        let altered = self.altered(answer.survivors);
+        let surplus = answer.survivors.count_ones() as usize - (self.station.t + 1);
+        if 2 * altered.count_ones() as usize <= surplus {
+            let agreeing = answer.survivors & !altered;
+            let right = answer.number == 0
+                && answer.secret == self.station.secret
+                && answer.agreeing == agreeing;
+            round
+                .ledger
+                .demand(right, kind, call, "the dealt secret is not opened", answer);
+            round.ledger.note("open: demand 3's last clause checked");
+        }
+        if honest == self.present {
+            let whole = answer.survivors == honest && answer.agreeing == honest;
+            round
+                .ledger
+                .demand(whole, kind, call, "an honest member is left out", answer);
+            round.ledger.note("open: demand 2 checked");
+        }
+    }
+
+    fn note(&self, round: &mut Round, answer: &Opened) {
+        if answer.survivors == 0 {
+            return;
+        }
+        let t = self.station.t;
+        let surplus = answer.survivors.count_ones() as usize - (t + 1);
+        let altered = self.altered(answer.survivors).count_ones() as usize;
+        let honest = self.as_dealt().count_ones() as usize > t;
+        let ledger = &mut *round.ledger;
+        match answer.number {
+            0 => {
+                ledger.note(format!("open: opened, t = {t}"));
+                ledger.note(format!("open: opened, d = {}", self.layout().d));
+                note_opened(ledger, surplus, altered);
+                if answer.secret != self.station.secret && honest {
+                    ledger.note("open: opened to another secret beside t + 1 as dealt");
+                }
+            }
+            _ => {
+                ledger.note(format!("open: 16, t = {t}"));
+                if altered == surplus / 2 + 1 {
+                    ledger.note("open: 16 one beyond half the surplus");
+                }
+            }
+        }
+        if answer.survivors != self.usable() {
+            ledger.note("open: a usable member struck, others survive");
+        }
+        if self.usable() != self.present {
+            ledger.note("open: an unusable member present, others survive");
+        }
+    }
+}
+
+fn note_opened(ledger: &mut crate::compare::Ledger, surplus: usize, altered: usize) {
+    ledger.note(format!("open: opened, surplus {surplus}"));
+    if altered > 0 {
+        ledger.note("open: opened with altered survivors");
+        if altered == surplus / 2 {
+            let parity = if surplus % 2 == 0 { "even" } else { "odd" };
+            ledger.note(format!(
+                "open: opened exactly at half the surplus, {parity}"
+            ));
+        }
+    }
+}

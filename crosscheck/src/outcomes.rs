@@ -1,0 +1,93 @@
+//! The outcomes that a run must have reached.
+
+use crate::cases::orders::{DEAL, DECODE, OPEN, PRUNE};
+use crate::cases::reading::{DAMAGES, ENDS, ORDERS};
+
+const CLASSES: &[&str] = &[
+    "open: demand 2 checked",
+    "open: demand 3 checked",
+    "open: demand 3's last clause checked",
+    "open: opened with altered survivors",
+    "open: opened exactly at half the surplus, even",
+    "open: opened exactly at half the surplus, odd",
+    "open: 16 one beyond half the surplus",
+    "open: 16 though each word alone decodes",
+    "open: opened to another secret beside t + 1 as dealt",
+    "open: a usable member struck, others survive",
+    "open: an unusable member present, others survive",
+    "open: above 65520 for an absent member",
+    "open: one altered member a word, opened",
+    "open: one altered member a word, 16",
+    "open: altered ones struck, altered ones survive, opened",
+    "open: only colluders survive",
+    "open: all colluders struck",
+    "open: quorum just met",
+    "open: quorum missed by one",
+    "open: done, compared with the search too",
+    "prune: nobody survives",
+    "prune: some survive",
+    "prune: all survive",
+    "prune: one strike brings another",
+    "decode: decoded at half the surplus",
+    "decode: 16 one beyond half the surplus",
+    "decode: above 65520 outside the set",
+    "decode: done, compared with the search too",
+    "tag: of no words",
+    "tag: of field words",
+    "tag: with words above 65520",
+    "read: good with no share",
+    "read: good with all shares",
+    "read: the longest good text",
+    "read: first line, t outside",
+    "read: first line, d outside",
+    "read: member 0",
+    "read: member n + 1",
+    "read: member far outside",
+    "read: member met before",
+    "read: 40000 bytes",
+    "read: 40001 bytes",
+];
+
+/// The name of every outcome that must come up at least once.
+pub fn required() -> Vec<String> {
+    let mut names: Vec<String> = CLASSES.iter().map(|name| name.to_string()).collect();
+    for order in [&DEAL, &OPEN, &PRUNE, &DECODE] {
+        let numbers = [0].iter().chain(order.numbers);
+        names.extend(numbers.map(|number| format!("{}: {number}", order.call)));
+        names.extend(order.pairs().into_iter().map(|pair| order.outcome(pair)));
+    }
+    names.extend([0, 21, 22, 23, 24, 25].map(|number| format!("read: {number}")));
+    names.extend(ORDERS.iter().map(|name| format!("read: {name}")));
+    names.extend(ENDS.iter().map(|name| format!("read: {name}")));
+    for name in DAMAGES {
+        names.push(format!("read: first line, {name}"));
+        names.push(format!("read: share line, {name}"));
+    }
+    names.extend(sizes());
+    names
+}
+
+/// Each t, each d and each surplus.
+fn sizes() -> Vec<String> {
+    let mut names = Vec::new();
+    for t in 1..=15 {
+        for class in [
+            "deal: t",
+            "open: opened, t",
+            "open: 16, t",
+            "prune: t",
+            "decode: decoded, t",
+        ] {
+            names.push(format!("{class} = {t}"));
+        }
+    }
+    for d in 1..=64 {
+        names.push(format!("deal: d = {d}"));
+        names.push(format!("open: opened, d = {d}"));
+    }
+    for surplus in 0..=15 {
+        names.push(format!("open: opened, surplus {surplus}"));
+        names.push(format!("decode: decoded, surplus {surplus}"));
+    }
+    names
+}

@@ -1,0 +1,116 @@
+//! The rules' examples C1 to C14 against the other implementation.
+
+use super::decoding::{decode, Way};
+use super::field::{inverse, mul};
+use super::pruning::prune;
+use super::sharing::{deal, open, tag, Opening};
+use super::text::{read, Reading, ROOM};
+
+const TEXT: &str = "D\t1\t1\t0\n\
+    P\t1\t253\t254\t507\t760\t1\t1\t1\t2\t1\t3\n\
+    P\t2\t256\t258\t514\t770\t2\t1\t2\t2\t2\t3\n\
+    P\t3\t300\t262\t521\t780\t3\t1\t3\t2\t3\t3\n";
+
+fn c5(keys: [u16; 18]) -> Vec<u16> {
+    let mut random = vec![3];
+    random.extend(keys);
+    let mut shares = vec![7; 30];
+    assert_eq!(deal(1, &[250], &random, &mut shares), 0);
+    shares
+}
+
+fn numbered_keys() -> [u16; 18] {
+    [1, 1, 1, 2, 1, 3, 2, 1, 2, 2, 2, 3, 3, 1, 3, 2, 3, 3]
+}
+
+fn opened(t: usize, present: u32, shares: &[u16], d: usize) -> (Opening, Vec<u16>) {
+    let mut secret = vec![9; d];
+    let opening = open(t, present, 0, shares, &mut secret, Way::Elimination);
+    let mut again = vec![9; d];
+    assert_eq!(
+        open(t, present, 0, shares, &mut again, Way::Subsets),
+        opening
+    );
+    assert_eq!(secret, again);
+    (opening, secret)
+}
+
+fn expected(number: u16, survivors: u32, agreeing: u32) -> Opening {
+    Opening {
+        number,
+        survivors,
+        agreeing,
+    }
+}
+
+#[test]
+fn c1_to_c4() {
+    assert_eq!(mul(65520, 65520), 1);
+    assert_eq!(inverse(2), 32761);
+    assert_eq!(inverse(0), 0);
+    assert_eq!(tag(4, 5, &[2, 3]), 61);
+    assert_eq!(tag(1, 1, &[65520]), 0);
+}
+
+#[test]
+fn inverses() {
+    assert!((1..65521).all(|a| mul(a, inverse(a)) == 1));
+}
+
+#[test]
+fn c5_and_c9() {
+    let mut words = vec![1; ROOM];
+    let reading = read(TEXT.as_bytes(), &mut words);
+    let wanted = Reading {
+        number: 0,
+        t: 1,
+        d: 1,
+        quorum: 0,
+        present: 7,
+    };
+    assert_eq!(reading, wanted);
+    assert!(words[30..].iter().all(|w| *w == 0));
+    let mut shares = words[..30].to_vec();
+    let (opening, secret) = opened(1, 7, &shares, 1);
+    assert_eq!((opening, secret), (expected(0, 3, 3), vec![250]));
+    shares[20] = 259;
+    assert_eq!(shares, c5(numbered_keys()));
+}
+
+#[test]
+fn c6_to_c8() {
+    assert_eq!(prune(1, &[3, 6, 4]), (0, 0));
+    assert_eq!(prune(1, &[7, 7, 7]), (0, 7));
+    assert_eq!(prune(1, &[3, 3, 4]), (0, 3));
+}
+
+#[test]
+fn c10_to_c12() {
+    let mut shares = c5([0; 18]);
+    shares[20] = 300;
+    assert_eq!(opened(1, 7, &shares, 1), (expected(16, 7, 0), vec![65535]));
+    let shares = c5(numbered_keys());
+    assert_eq!(opened(1, 1, &shares, 1), (expected(14, 0, 0), vec![65535]));
+    assert_eq!(opened(1, 3, &shares, 1), (expected(0, 3, 3), vec![250]));
+}
+
+#[test]
+fn c13_and_c14() {
+    let mut shares = vec![0; 85];
+    shares[51] = 1;
+    assert_eq!(opened(2, 31, &shares, 2), (expected(0, 31, 23), vec![0, 0]));
+    shares[69] = 1;
+    assert_eq!(
+        opened(2, 31, &shares, 2),
+        (expected(16, 31, 0), vec![65535; 2])
+    );
+}
+
+#[test]
+fn decoding_refuses_in_order() {
+    let mut room = [1; 2];
+    assert_eq!(decode(1, &[5, 5, 6], 7, &mut room, Way::Elimination), 16);
+    assert_eq!(room, [65535; 2]);
+    assert_eq!(decode(1, &[5, 5, 65535], 3, &mut room, Way::Subsets), 0);
+    assert_eq!(room, [5, 0]);
+}

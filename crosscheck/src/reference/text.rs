@@ -1,0 +1,102 @@
+//! The reader of hand-in text, by splitting into lines and fields.
+
+use super::sharing::Layout;
+use super::{allowed, holds};
+
+/// How many words the reader's buffer has.
+pub const ROOM: usize = 4867;
+/// The longest text, in bytes.
+pub const LONGEST: usize = 40000;
+
+/// What the reader gives beside the words.
+#[derive(Clone, Copy, Debug, Default, PartialEq, Eq)]
+pub struct Reading {
+    pub number: u16,
+    pub t: usize,
+    pub d: usize,
+    pub quorum: u16,
+    pub present: u32,
+}
+
+/// The call: reads into `words`; a refusal fills it with 0.
+pub fn read(text: &[u8], words: &mut [u16]) -> Reading {
+    words.fill(0);
+    let result = if words.len() != ROOM {
+        Err(25)
+    } else if text.len() > LONGEST {
+        Err(21)
+    } else {
+        lines_of(text, words)
+    };
+    result.unwrap_or_else(|number| {
+        words.fill(0);
+        Reading {
+            number,
+            ..Reading::default()
+        }
+    })
+}
+
+fn lines_of(text: &[u8], words: &mut [u16]) -> Result<Reading, u16> {
+    let mut lines: Vec<&[u8]> = text.split(|byte| *byte == b'\n').collect();
+    let unended = lines.pop().filter(|rest| !rest.is_empty());
+    let (first, others) = lines.split_first().ok_or(22u16)?;
+    let mut reading = first_line(first).ok_or(22u16)?;
+    let layout = Layout::new(reading.t, reading.d);
+    for line in others {
+        let (member, share) = share_line(line, layout.width()).ok_or(23u16)?;
+        let i = member as usize;
+        if !(1..=layout.n).contains(&i) || holds(reading.present, i) {
+            return Err(24);
+        }
+        reading.present |= 1 << (i - 1);
+        words[layout.word(i, 0)..layout.word(i + 1, 0)].copy_from_slice(&share);
+    }
+    match unended {
+        Some(_) => Err(23),
+        None => Ok(reading),
+    }
+}
+
+fn fields(line: &[u8]) -> Vec<&[u8]> {
+    line.split(|byte| *byte == b'\t').collect()
+}
+
+fn first_line(line: &[u8]) -> Option<Reading> {
+    let fields = fields(line);
+    if fields.len() != 4 || fields[0] != b"D" {
+        return None;
+    }
+    let t = numeral(fields[1])? as usize;
+    let d = numeral(fields[2])? as usize;
+    let quorum = numeral(fields[3])?;
+    let good = allowed(t) && (1..=64).contains(&d);
+    good.then_some(Reading {
+        number: 0,
+        t,
+        d,
+        quorum,
+        present: 0,
+    })
+}
+
+/// The member and its share.
+fn share_line(line: &[u8], width: usize) -> Option<(u16, Vec<u16>)> {
+    let fields = fields(line);
+    if fields.len() != 2 + width || fields[0] != b"P" {
+        return None;
+    }
+    let member = numeral(fields[1])?;
+    let share: Option<Vec<u16>> = fields[2..].iter().map(|field| numeral(field)).collect();
+    Some((member, share?))
+}
+
+/// 1 to 5 digits, at most 65535, no leading zero except 0 itself.
+fn numeral(field: &[u8]) -> Option<u16> {
+    let digits = std::str::from_utf8(field).ok()?;
+    let plain = !digits.is_empty() && digits.bytes().all(|b| b.is_ascii_digit());
+    if !plain || digits.len() > 5 || (digits.len() > 1 && digits.starts_with('0')) {
+        return None;
+    }
+    digits.parse().ok()
+}
