@@ -40,7 +40,7 @@ impl Ledger {
             let what = format!("the library changed {damage:?}");
             self.differ(kind, call, &what, ("library", &given), &answer);
         }
-        if let Some(searched) = call.second_way(self.calls % 8 == 0) {
+        if let Some(searched) = call.second_way(self.calls.is_multiple_of(8)) {
             if searched != answer {
                 let searched = ("search", &searched);
                 self.differ(kind, call, "the search differs", searched, &answer);

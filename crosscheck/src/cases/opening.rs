@@ -393,7 +393,8 @@ fn above_the_field(round: &mut Round) {
             0 => (handed.shares[place] as u32 + 65521).min(65535) as u16,
             _ => round.random.above(),
         };
-        if !holds(handed.present, j) && handed.usable().count_ones() as usize > station.t {
+        let aside = place >= layout.tag(i, 1) && !holds(handed.present, j);
+        if aside && handed.usable().count_ones() as usize > station.t {
             round.ledger.note("open: above 65520 for an absent member");
         }
     }
@@ -417,7 +418,12 @@ fn absent_garbage(round: &mut Round) {
         };
         handed.shares[layout.word(i, 0)..layout.word(i + 1, 0)].copy_from_slice(&fresh);
     }
-    handed.open(round, "garbage for absent members");
+    let answer = handed.open(round, "garbage for absent members");
+    if answer.number == 0 && handed.present != station.everybody() {
+        let names = ["zeros", "65535", "any words"];
+        let outcome = format!("open: opened, {} for absent members", names[style]);
+        round.ledger.note(outcome);
+    }
 }
 
 /// Just t + 1 members, one vote short somewhere: nobody survives.

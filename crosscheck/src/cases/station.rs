@@ -249,7 +249,11 @@ fn note_opened(ledger: &mut crate::compare::Ledger, surplus: usize, altered: usi
     if altered > 0 {
         ledger.note("open: opened with altered survivors");
         if altered == surplus / 2 {
-            let parity = if surplus % 2 == 0 { "even" } else { "odd" };
+            let parity = if surplus.is_multiple_of(2) {
+                "even"
+            } else {
+                "odd"
+            };
             ledger.note(format!(
                 "open: opened exactly at half the surplus, {parity}"
             ));

@@ -65,9 +65,9 @@ pub fn divide(dividend: &[u32], divisor: &[u32]) -> Option<Vec<u32>> {
     for place in (degree..rest.len()).rev() {
         let factor = mul(rest[place], lead);
         quotient[place - degree] = factor;
-        for k in 0..=degree {
-            let low = place - degree + k;
-            rest[low] = sub(rest[low], mul(factor, divisor[k]));
+        let span = &mut rest[place - degree..=place];
+        for (r, c) in span.iter_mut().zip(divisor) {
+            *r = sub(*r, mul(factor, *c));
         }
     }
     rest.iter().all(|c| *c == 0).then_some(quotient)
