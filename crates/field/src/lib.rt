@@ -2,7 +2,7 @@
 ghost use mathlib.Core.Path.{_≡_};
 ghost use Prim.Native.Nat.{_+_, _*_, _^_, _%_, _≤_, _<_};
 ghost use Rattle.lists.specs.Tabulate.{each};
-ghost use Rattle.field.specs.Field.{isFieldWord, sum, difference, product, inverse as inverseOf};
+ghost use Rattle.field.specs.Field.{prime, isFieldWord, sum, difference, product, inverse as inverseOf};
 
 // The inverses of 1 to 30.
 const SMALL_INVERSES: [u16; 30] = [
@@ -61,6 +61,28 @@ pub fn add_product(c: u16, a: u16, b: u16) -> u16
     ensures { λ r. ⌜ r ≡ sum c (product a b) ⌝ }
 {
     ((c as u32 + a as u32 * b as u32) % 65521) as u16
+}
+
+// c plus the four products a · b, with one reduction
+pub fn add_four_products(
+    c: u16,
+    a0: u16,
+    b0: u16,
+    a1: u16,
+    b1: u16,
+    a2: u16,
+    b2: u16,
+    a3: u16,
+    b3: u16,
+) -> u16
+    ensures { λ r. ⌜ r ≡ (c + a0 * b0 + a1 * b1 + a2 * b2 + a3 * b3) % prime ⌝ }
+{
+    ((c as u64
+        + a0 as u64 * b0 as u64
+        + a1 as u64 * b1 as u64
+        + a2 as u64 * b2 as u64
+        + a3 as u64 * b3 as u64)
+        % 65521) as u16
 }
 
 // a to the power of the lowest binary digit of k

@@ -37,6 +37,23 @@ value-cons c cs x =
     (same-trans (value-same (c ∷ cs) x)
     (same-sym (same-trans (sum-same c (product x (value cs x))) (same-refl ⊕ same-trans (product-same x (value cs x)) (times x (value-same cs x))))))
 
+-- four steps at once, with the powers of x taken modulo p
+pub value-four : (c₀ c₁ c₂ c₃ : ℕ) (cs : List ℕ) (x : ℕ)
+    → value (c₀ ∷ c₁ ∷ c₂ ∷ c₃ ∷ cs) x
+    ≡ (c₀ + x * c₁ + product x x * c₂ + product (product x x) x * c₃ + product (product x x) (product x x) * value cs x) % prime
+unfolding eval
+value-four c₀ c₁ c₂ c₃ cs x =
+    let s : product x x ≈ x * x = product-same x x in
+    let q : product (product x x) x ≈ x * x * x = same-trans (product-same (product x x) x) (s ⊗ same-refl) in
+    let f : product (product x x) (product x x) ≈ x * x * (x * x) = same-trans (product-same (product x x) (product x x)) (s ⊗ s) in
+    let powers : c₀ + x * c₁ + product x x * c₂ + product (product x x) x * c₃ + product (product x x) (product x x) * value cs x
+    ≈ c₀ + x * c₁ + x * x * c₂ + x * x * x * c₃ + x * x * (x * x) * eval cs x =
+    (((same-refl ⊕ (s ⊗ same-refl)) ⊕ (q ⊗ same-refl)) ⊕ (f ⊗ value-same cs x)) in
+    eq-same (value-word (c₀ ∷ c₁ ∷ c₂ ∷ c₃ ∷ cs) x)
+    (mod-word (c₀ + x * c₁ + product x x * c₂ + product (product x x) x * c₃ + product (product x x) (product x x) * value cs x))
+    (same-trans (value-same (c₀ ∷ c₁ ∷ c₂ ∷ c₃ ∷ cs) x)
+    (same-trans (same-eq (omega arith)) (same-sym (same-trans (reduced _) powers))))
+
 -- all coefficients are 0, so all values are
 pub eval-zero : {cs : List ℕ} → Every (λ c. c ≈ 0) cs → (x : ℕ) → eval cs x ≈ 0
 unfolding eval

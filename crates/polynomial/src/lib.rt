@@ -6,7 +6,7 @@ ghost use Rattle.polynomial.specs.Polynomial.{value, interpolated};
 ghost use Rattle.polynomial.specs.Newton.{slopesFrom, divided, linearFrom, expanded};
 
 // The polynomial's value at x, by Horner's rule.
-pub fn evaluate(coefficients: &[u16], x: u16) -> u16
+fn horner(coefficients: &[u16], x: u16) -> u16
     ensures { λ r. ⌜ r ≡ value (now (coefficients .entry)) x ⌝ }
 {
     let mut result: u16 = 0;
@@ -14,6 +14,33 @@ pub fn evaluate(coefficients: &[u16], x: u16) -> u16
     while 0 < i {
         i = i - 1;
         result = field::add_product(coefficients[i], x, result);
+    }
+    result
+}
+
+// The polynomial's value at x, four coefficients at a time.
+pub fn evaluate(coefficients: &[u16], x: u16) -> u16
+    ensures { λ r. ⌜ r ≡ value (now (coefficients .entry)) x ⌝ }
+{
+    let square = field::multiply(x, x);
+    let cube = field::multiply(square, x);
+    let fourth = field::multiply(square, square);
+    let mut k = coefficients.len() / 4;
+    let mut result = horner(&coefficients[4 * k..], x);
+    while 0 < k {
+        k = k - 1;
+        let i = 4 * k;
+        result = field::add_four_products(
+            coefficients[i],
+            x,
+            coefficients[i + 1],
+            square,
+            coefficients[i + 2],
+            cube,
+            coefficients[i + 3],
+            fourth,
+            result,
+        );
     }
     result
 }

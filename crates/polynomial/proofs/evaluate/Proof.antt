@@ -1,70 +1,149 @@
--- `polynomial::evaluate` meets its contract. The loop's invariant: the result is the value of the coefficients from i on.
+-- `polynomial::evaluate` meets its contract. The loop's invariant: the result is the value of the coefficients from place 4k on.
 -- Assumes nothing.
-use mathlib.Core.Path.{_≡_, refl, sym, ap, _∙_}
-use mathlib.Core.List.{List}
-use Prim.Native.Nat.{ℕ, zero, suc, _-_, _≤_, _<_}
-use native.Mathlib.Nat.{le-refl, not-suc-le-zero}
-use native.Mathlib.Numerals.{sub-one}
+use mathlib.Core.Path.{_≡_, sym, ap, _∙_}
+use mathlib.Core.List.{List, _∷_}
+use Prim.Native.Nat.{ℕ, zero, suc, _+_, _-_, _*_, _/_, _%_, _≤_, _<_}
+use native.Mathlib.Nat.{le-of-eq, not-suc-le-zero}
 use native.Mathlib.Omega.{arith}
-use lib.ListN.{length, getD, drop}
-use lib.Seq.{drop-length, drop-cons}
-use Rattle.field.specs.Field.{sum, product}
-use Rattle.polynomial.specs.Polynomial.{eval, value}
-use Rattle.polynomial.proofs.Evaluation.{value-cons}
+use lib.ListN.{length, getD, take, drop, length-drop}
+use lib.Seq.{drop-cons, take-all}
+use Rattle.field.specs.Field.{prime, product}
+use Rattle.polynomial.specs.Polynomial.{value}
+use Rattle.polynomial.proofs.Evaluation.{value-four}
 use Rattle.polynomial.proofs.evaluate.Statement.{statement}
 use Rattle.polynomial.proofs.evaluate.Tie as tie
 
-record Turn (cs : List ℕ) (x result i : ℕ) : Type 0 where
-  inside : i ≤ length cs
-  so-far : result ≡ value (drop i cs) x
+record Turn (cs : List ℕ) (x k result : ℕ) : Type 0 where
+  inside : 4 * k ≤ length cs
+  so-far : result ≡ value (drop (4 * k) cs) x
 
-first : (cs : List ℕ) (x : ℕ) → Turn cs x 0 (length cs)
-unfolding value eval
-first cs x = record { inside = le-refl (length cs); so-far = sym (ap (λ (l : List ℕ). value l x) (drop-length cs)) }
-
-next : (cs : List ℕ) (x result i r : ℕ) → 0 < i → Turn cs x result i → r ≡ sum (getD cs (i - 1) 0) (product x result) → Turn cs x r (i - 1)
-next cs x result zero r p h e = absurd (not-suc-le-zero p)
-next cs x result (suc i) r p h e =
-    rw sub-one
-    (record {
+first : (cs : List ℕ) (x r : ℕ) → r ≡ value (take (length cs - 4 * (length cs / 4)) (drop (4 * (length cs / 4)) cs)) x → Turn cs x (length cs / 4) r
+first cs x r e =
+    record {
       inside = omega arith;
-      so-far =
-          rw sub-one at e
-          ∙ ap (λ (n : ℕ). sum (getD cs i 0) (product x n)) (h .so-far)
-          ∙ sym (value-cons (getD cs i 0) (drop (suc i) cs) x)
-          ∙ ap (λ (l : List ℕ). value l x) (sym (drop-cons cs i 0 (h .inside)));
-    })
+      so-far = e ∙ ap (λ (l : List ℕ). value l x) (take-all _ _ (le-of-eq (length-drop _ cs)));
+    }
 
-last : (cs : List ℕ) (x result i : ℕ) → i ≤ 0 → Turn cs x result i → result ≡ value cs x
-last cs x result zero p h = h .so-far
-last cs x result (suc i) p h = absurd (not-suc-le-zero p)
+drop-four : (cs : List ℕ) (i : ℕ) → i + 4 ≤ length cs
+    → drop i cs ≡ getD cs i 0 ∷ getD cs (i + 1) 0 ∷ getD cs (i + 2) 0 ∷ getD cs (i + 3) 0 ∷ drop (i + 4) cs
+drop-four cs i h =
+    let at : (j k : ℕ) → k ≡ suc j → j < length cs → drop j cs ≡ getD cs j 0 ∷ drop k cs =
+    λ j k e l. drop-cons cs j 0 l ∙ ap (λ (n : ℕ). getD cs j 0 ∷ drop n cs) (sym e) in
+    at i (i + 1) (omega arith) (omega arith)
+    ∙ ap (λ (l : List ℕ). getD cs i 0 ∷ l)
+    (at (i + 1) (i + 2) (omega arith) (omega arith)
+    ∙ ap (λ (l : List ℕ). getD cs (i + 1) 0 ∷ l)
+    (at (i + 2) (i + 3) (omega arith) (omega arith)
+    ∙ ap (λ (l : List ℕ). getD cs (i + 2) 0 ∷ l) (at (i + 3) (i + 4) (omega arith) (omega arith))))
+
+module _ (cs : List ℕ) (x square cube fourth : ℕ) (s : square ≡ product x x) (q : cube ≡ product square x) (f : fourth ≡ product square square) where
+  four : (i v : ℕ) → i + 4 ≤ length cs → v ≡ value (drop (i + 4) cs) x
+      → (getD cs i 0 + x * getD cs (i + 1) 0 + square * getD cs (i + 2) 0 + cube * getD cs (i + 3) 0 + fourth * v) % prime ≡ value (drop i cs) x
+  four i v h e =
+      rw (q, f, s, e)
+      (sym (value-four (getD cs i 0) (getD cs (i + 1) 0) (getD cs (i + 2) 0) (getD cs (i + 3) 0) (drop (i + 4) cs) x))
+      ∙ ap (λ (l : List ℕ). value l x) (sym (drop-four cs i h))
+
+  next : (k result r : ℕ) → 0 < k → Turn cs x k result
+      → r ≡ (getD cs (4 * (k - 1)) 0 + x * getD cs (4 * (k - 1) + 1) 0 + square * getD cs (4 * (k - 1) + 2) 0 + cube * getD cs (4 * (k - 1) + 3) 0 + fourth * result) % prime
+      → Turn cs x (k - 1) r
+  next k result r p h e =
+      let i : 4 * (k - 1) + 4 ≡ 4 * k = omega arith in
+      record {
+        inside = omega (arith, h .inside);
+        so-far = e ∙ four (4 * (k - 1)) result (omega (arith, h .inside)) (h .so-far ∙ ap (λ (n : ℕ). value (drop n cs) x) (sym i));
+      }
+
+last : (cs : List ℕ) (x k result : ℕ) → k ≤ 0 → Turn cs x k result → result ≡ value cs x
+last cs x zero result p h = h .so-far
+last cs x (suc k) result p h = absurd (not-suc-le-zero p)
 
 abbrev Inv-loop : tie.InvT-loop
-Inv-loop coefficients x result₀ i₀ result i = Turn coefficients x result i
+Inv-loop coefficients x square cube fourth k₀ result₀ k result = Turn coefficients x k result
 
 abbrev μ-loop : tie.MeasureT-loop
-μ-loop coefficients x result₀ i₀ result i = i
+μ-loop coefficients x square cube fourth k₀ result₀ k result = k
+
+multiply-requires : tie.Need-multiply-requires Inv-loop μ-loop
+multiply-requires c κs = tt
+
+multiply-requires-2 : tie.Need-multiply-requires-2 Inv-loop μ-loop
+multiply-requires-2 c κs = tt
+
+multiply-requires-3 : tie.Need-multiply-requires-3 Inv-loop μ-loop
+multiply-requires-3 c κs = tt
+
+mul-horner : tie.Need-mul-horner Inv-loop μ-loop
+mul-horner c = omega arith
+
+mul-horner-2 : tie.Need-mul-horner-2 Inv-loop μ-loop
+mul-horner-2 c = omega arith
+
+sub-horner : tie.Need-sub-horner Inv-loop μ-loop
+sub-horner c = omega arith
+
+part-horner-start : tie.Need-part-horner-start Inv-loop μ-loop
+part-horner-start c = omega arith
+
+part-horner-end : tie.Need-part-horner-end Inv-loop μ-loop
+part-horner-end c = omega arith
+
+horner-requires : tie.Need-horner-requires Inv-loop μ-loop
+horner-requires c κs = tt
 
 loop-holds : tie.Need-loop-holds Inv-loop μ-loop
-loop-holds c = first _ _
+loop-holds c = first _ _ _ (c .horner .ensures)
 
-sub-i : tie.Need-sub-i Inv-loop μ-loop
-sub-i c = omega arith
+sub-k : tie.Need-sub-k Inv-loop μ-loop
+sub-k c = omega arith
 
-mul-add-product : tie.Need-mul-add-product Inv-loop μ-loop
-mul-add-product c = omega arith
+mul-i : tie.Need-mul-i Inv-loop μ-loop
+mul-i c = omega arith
 
-shared-slice-read-add-product : tie.Need-shared-slice-read-add-product Inv-loop μ-loop
-shared-slice-read-add-product c = omega arith
+mul-add-four-products : tie.Need-mul-add-four-products Inv-loop μ-loop
+mul-add-four-products c = omega arith
 
-add-product-requires : tie.Need-add-product-requires Inv-loop μ-loop
-add-product-requires c κs = tt
+shared-slice-read-add-four-products : tie.Need-shared-slice-read-add-four-products Inv-loop μ-loop
+shared-slice-read-add-four-products c = omega arith
+
+add-add-four-products : tie.Need-add-add-four-products Inv-loop μ-loop
+add-add-four-products c = omega arith
+
+mul-add-four-products-2 : tie.Need-mul-add-four-products-2 Inv-loop μ-loop
+mul-add-four-products-2 c = omega arith
+
+shared-slice-read-add-four-products-2 :
+    tie.Need-shared-slice-read-add-four-products-2 Inv-loop μ-loop
+shared-slice-read-add-four-products-2 c = omega arith
+
+add-add-four-products-2 : tie.Need-add-add-four-products-2 Inv-loop μ-loop
+add-add-four-products-2 c = omega arith
+
+mul-add-four-products-3 : tie.Need-mul-add-four-products-3 Inv-loop μ-loop
+mul-add-four-products-3 c = omega arith
+
+shared-slice-read-add-four-products-3 :
+    tie.Need-shared-slice-read-add-four-products-3 Inv-loop μ-loop
+shared-slice-read-add-four-products-3 c = omega arith
+
+add-add-four-products-3 : tie.Need-add-add-four-products-3 Inv-loop μ-loop
+add-add-four-products-3 c = omega arith
+
+mul-add-four-products-4 : tie.Need-mul-add-four-products-4 Inv-loop μ-loop
+mul-add-four-products-4 c = omega arith
+
+shared-slice-read-add-four-products-4 :
+    tie.Need-shared-slice-read-add-four-products-4 Inv-loop μ-loop
+shared-slice-read-add-four-products-4 c = omega arith
+
+add-four-products-requires : tie.Need-add-four-products-requires Inv-loop μ-loop
+add-four-products-requires c κs = tt
 
 loop-less : tie.Need-loop-less Inv-loop μ-loop
 loop-less c = omega arith
 
 loop-again : tie.Need-loop-again Inv-loop μ-loop
-loop-again c = next _ _ _ _ _ (c .before .before .loop-test .taken) (c .before .before .before .loop .inv) (c .add-product .ensures)
+loop-again c = next _ _ _ _ _ (c .before .before .before .before .before .before .before .before .before .before .before .multiply .ensures) (c .before .before .before .before .before .before .before .before .before .before .multiply2 .ensures) (c .before .before .before .before .before .before .before .before .before .multiply3 .ensures) _ _ _ (c .before .before .before .before .before .loop-test .taken) (c .before .before .before .before .before .before .loop .inv) (c .add-four-products .ensures)
 
 returns : tie.Need-returns Inv-loop μ-loop
 returns c = last _ _ _ _ (c .loop-test .left) (c .before .loop .inv)
@@ -75,11 +154,30 @@ evaluate-spec =
     (tie.spec
     Inv-loop
     μ-loop
+    multiply-requires
+    multiply-requires-2
+    multiply-requires-3
+    mul-horner
+    mul-horner-2
+    sub-horner
+    part-horner-start
+    part-horner-end
+    horner-requires
     loop-holds
-    sub-i
-    mul-add-product
-    shared-slice-read-add-product
-    add-product-requires
+    sub-k
+    mul-i
+    mul-add-four-products
+    shared-slice-read-add-four-products
+    add-add-four-products
+    mul-add-four-products-2
+    shared-slice-read-add-four-products-2
+    add-add-four-products-2
+    mul-add-four-products-3
+    shared-slice-read-add-four-products-3
+    add-add-four-products-3
+    mul-add-four-products-4
+    shared-slice-read-add-four-products-4
+    add-four-products-requires
     loop-less
     loop-again
     returns)
