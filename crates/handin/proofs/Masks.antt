@@ -1,24 +1,13 @@
 -- Laws of the set of those that pass a test, as a mask.
 -- Assumes nothing.
-use mathlib.Core.Path.{_≡_, refl, sym, ap, ap₂, _∙_}
+use mathlib.Core.Path.{_≡_, refl, sym, ap, _∙_}
 use mathlib.Core.Bool.{Bool, true, false}
 use Prim.Native.Nat.{ℕ, zero, suc, _+_, _*_, _/_, _%_, _^_, _≤_, _<_, zero-le, suc-le-suc}
 use native.Mathlib.Nat.{not-suc-le-zero, le-of-suc-le-suc, suc-ne-zero, suc-inj, pow-zero, pow-succ', div-one, div-div-eq-div-mul, pow-le-pow-right, mod-eq-of-lt, one-le-pow}
 use native.Mathlib.Omega.{arith}
 use Rattle.lists.proofs.Count.{toℕ, toℕ-le}
 use Rattle.members.specs.Members.{setOf}
-
--- it has no bit beyond the members
-pub setOf-lt : (n : ℕ) (p : ℕ → Bool) → setOf n p < 2 ^ n
-unfolding setOf
-setOf-lt zero p = omega (arith, pow-zero 2)
-setOf-lt (suc n) p = omega (arith, toℕ-le (p 0), setOf-lt n (λ i. p (suc i)), pow-succ' 2 n)
-
-pub setOf-ext : (n : ℕ) (p q : ℕ → Bool) → ((i : ℕ) → i < n → p i ≡ q i) → setOf n p ≡ setOf n q
-unfolding setOf
-setOf-ext zero p q h = refl
-setOf-ext (suc n) p q h =
-    ap₂ (λ (b : Bool) (m : ℕ). toℕ b + 2 * m) (h 0 (suc-le-suc zero-le)) (setOf-ext n (λ i. p (suc i)) (λ i. q (suc i)) (λ i k. h (suc i) (suc-le-suc k)))
+use Rattle.members.proofs.Masks.{setOf-ext}
 
 -- one member more
 pub setOf-add :

@@ -5,7 +5,7 @@ use mathlib.Core.Bool.{false}
 use mathlib.Core.Logic.{inl, inr}
 use mathlib.Core.Option.{some}
 use mathlib.Core.List.{List, [], _∷_, _++_}
-use Prim.Native.Nat.{ℕ, zero, suc, _+_, _-_, _*_, _/_, _%_, _^_, _≤_, _<_}
+use Prim.Native.Nat.{ℕ, _+_, _-_, _*_, _/_, _%_, _^_, _≤_, _<_}
 use native.Mathlib.Omega.{arith}
 use borrow.Author.Tests.{eq-eqb, ne-eqb, eqb-true, eqb-false}
 use lib.Dec.{eqb}
@@ -15,7 +15,8 @@ use Rattle.lists.specs.Tabulate.{first}
 use Rattle.lists.proofs.Bools.{test}
 use Rattle.lists.proofs.Count.{toℕ}
 use Rattle.lists.proofs.StoredBlocks.{sets-block, concat-replicate}
-use Rattle.members.specs.Members.{size, setOf}
+use Rattle.members.specs.Members.{size}
+use Rattle.members.proofs.Words.{setOf-none}
 use Rattle.shares.specs.Layout.{width}
 use Rattle.handin.specs.Reader.{Share, capacity, shareOf, isSome, wordsOr, placed}
 use Rattle.handin.specs.Progress.{Holds}
@@ -31,17 +32,12 @@ unfolding shareOf first
 share-other s taken i ne = rw (shareOf, first, ne-eqb (s .member) i (λ e. ne (sym e)))
 
 -- nobody met: all words 0
-no-members : (n : ℕ) → setOf n (λ i. false) ≡ 0
-unfolding setOf
-no-members zero = refl
-no-members (suc n) = omega (arith, no-members n)
-
 pub holds-none : (t d len : ℕ) → len ≡ capacity → size t * width t d ≤ len → Holds t d [] 0 (replicate len 0)
 unfolding placed shareOf first isSome wordsOr
 holds-none t d len e fit =
     let whole : len ≡ size t * width t d + (capacity - size t * width t d) = omega (arith, e) in
     record {
-      members = sym (no-members (size t));
+      members = sym (setOf-none (size t) (λ i. false) (λ i l. refl));
       stored =
           ap (λ (k : ℕ). replicate k 0) whole
           ∙ sym (replicate-append-replicate (size t * width t d) (capacity - size t * width t d) 0)

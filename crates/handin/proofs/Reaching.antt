@@ -10,6 +10,8 @@ use lib.ListN.{length, take, drop, replicate, drop-of-length-le}
 use lib.Seq.{drop-cons, take-all}
 use Rattle.lists.specs.Checks.{refusal}
 use Rattle.members.specs.Members.{size}
+use Rattle.members.proofs.Masks.{setOf-lt}
+use Rattle.members.proofs.Words.{size-31}
 use Rattle.shares.specs.Layout.{width}
 use Rattle.handin.specs.Lines.{parts}
 use Rattle.handin.specs.Reader.{Share, capacity, shareOf, isSome, Taken, shares, refused, takeLine, takeLines, unread, readFrom}
@@ -20,7 +22,6 @@ use Rattle.handin.specs.declared.Line.{Line}
 use Rattle.handin.specs.declared.Line.the-variants as L
 use Rattle.handin.specs.declared.Outcome.the-variants as O
 use Rattle.handin.proofs.Lines.{parts-some, lines-next, lines-refused, lines-unended, text-end}
-use Rattle.handin.proofs.Masks.{setOf-lt}
 use Rattle.handin.proofs.Placing.{holds-none}
 use Rattle.handin.proofs.Taking.{place-end}
 
@@ -29,10 +30,6 @@ pub record Reached (t d : ℕ) (all : Taken) (rest : List ℕ) (present : ℕ) (
   pub taken : List Share
   pub so : all ≡ takeLines t d taken (parts 10 rest)
   pub holds : Holds t d taken present words
-
-size-high : (t d : ℕ) → InRange t d → size t ≤ 31
-unfolding size
-size-high t d r = omega (arith, r .t-high)
 
 fits : (t d : ℕ) → InRange t d → size t * width t d ≤ 4867
 unfolding size width
@@ -62,7 +59,7 @@ module _ (t d : ℕ) (all : Taken) (rest : List ℕ) (present : ℕ) (words : Li
   pub reached-mask : InRange t d → present < 2147483648
   reached-mask r =
       let two : 0 < 2 = omega arith in
-      let p : 2 ^ size t ≤ 2 ^ 31 = pow-le-pow-right two (size-high t d r) in
+      let p : 2 ^ size t ≤ 2 ^ 31 = pow-le-pow-right two (size-31 t (r .t-high)) in
       let q : 2 ^ 31 ≡ 2147483648 = refl in
       omega (arith, p, q, s .holds .members, setOf-lt (size t) (λ i. isSome (shareOf (s .taken) i)))
 

@@ -7,13 +7,12 @@ use mathlib.Core.Option.{Option, none, some}
 use mathlib.Core.List.{List, [], _∷_}
 use Prim.Native.Nat.{ℕ, _+_, _-_, _≤_, zero-le}
 use native.Mathlib.Omega.{arith}
-use borrow.Author.Tests.{leb-true}
 use lib.Dec.{leb, eqb}
 use lib.ListN.{length, getD, drop}
 use Rattle.lists.specs.Checks.{Check, _unless_, checked, within}
 use Rattle.lists.specs.Tabulate.{each}
-use Rattle.lists.proofs.Bools.{test, and-left, and-right}
-use Rattle.lists.proofs.Checks.{check-fails, check-passes, all-passed, number-fits}
+use Rattle.lists.proofs.Bools.{test}
+use Rattle.lists.proofs.Checks.{check-fails, check-passes, all-passed, number-fits, within-low, within-high}
 use Rattle.members.specs.Members.{size, isThreshold}
 use Rattle.shares.specs.Layout.{width, isLength}
 use Rattle.handin.specs.Lines.{parts, lineOf}
@@ -85,10 +84,10 @@ module _ (len : ℕ) where
                   rw (check-passes (unread len) 22 (isLength d) [] answer f)
                   (h
                   (record {
-                    t-low = leb-true 1 t (and-left (leb 1 t) (leb t 15) e);
-                    t-high = leb-true t 15 (and-right (leb 1 t) (leb t 15) e);
-                    d-low = leb-true 1 d (and-left (leb 1 d) (leb d 64) f);
-                    d-high = leb-true d 64 (and-right (leb 1 d) (leb d 64) f);
+                    t-low = within-low 1 15 t e;
+                    t-high = within-high 1 15 t e;
+                    d-low = within-low 1 64 d f;
+                    d-high = within-high 1 64 d f;
                   }))
             ])
       ]

@@ -11,9 +11,10 @@ use lib.Dec.{eqb, ltb, leb, leb·suc-suc}
 use lib.Bits.{bitAnd, bitOr, bitXor, and-mask, or-lt, xor-lt}
 use lib.Count.{ones}
 use lib.Pow.{pow-mono, pow-lt}
-use borrow.Author.Tests.{leb-true, eqb-true, eqb-false, ne-eqb, lt-ltb, ltb-true, ltb-false}
+use borrow.Author.Tests.{eqb-true, eqb-false, ne-eqb, lt-ltb, ltb-true, ltb-false}
 use Rattle.lists.specs.Tabulate.{count}
-use Rattle.lists.proofs.Bools.{and-right, test, or-no, or-yes, and-no, and-not}
+use Rattle.lists.proofs.Bools.{test, or-no, or-yes, and-no, and-not}
+use Rattle.lists.proofs.Checks.{within-high}
 use Rattle.lists.proofs.Count.{count-more}
 use Rattle.members.specs.Members.{isThreshold, size, has, setOf, isSet, adding, striking, firstOf, common}
 use Rattle.members.proofs.Masks.{has-setOf, setOf-lt, setOf-has, setOf-ext, same-members, has-above, has-or, has-xor, has-power, has-shift, ones-and, suc-everyone}
@@ -138,9 +139,12 @@ common-count n a b l h =
 -- ---- a station's members
 
 -- at most 31
-pub size-le : (t : ℕ) → isThreshold t ≡ true → size t ≤ 31
+pub size-31 : (t : ℕ) → t ≤ 15 → size t ≤ 31
 unfolding size
-size-le t h = omega (arith, leb-true t 15 (and-right (leb 1 t) (leb t 15) h))
+size-31 t h = omega arith
+
+pub size-le : (t : ℕ) → isThreshold t ≡ true → size t ≤ 31
+size-le t h = size-31 t (within-high 1 15 t h)
 
 pub size-of : (t : ℕ) → 2 * t + 1 ≡ size t
 unfolding size
