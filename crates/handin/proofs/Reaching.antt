@@ -2,19 +2,17 @@
 -- Assumes nothing.
 use mathlib.Core.Path.{_≡_, refl, sym, ap, ap₂, _∙_, subst}
 use mathlib.Core.List.{List, [], _∷_}
-use Prim.Native.Nat.{ℕ, _+_, _*_, _^_, _≤_, _<_}
-use native.Mathlib.Nat.{not-suc-le-zero, pow-le-pow-right}
+use Prim.Native.Nat.{ℕ, _+_, _*_, _≤_, _<_}
+use native.Mathlib.Nat.{not-suc-le-zero}
 use native.Mathlib.Numerals.{add-one}
 use native.Mathlib.Omega.{arith}
 use lib.ListN.{length, take, drop, replicate, drop-of-length-le}
 use lib.Seq.{drop-cons, take-all}
 use Rattle.lists.specs.Checks.{refusal}
 use Rattle.members.specs.Members.{size}
-use Rattle.members.proofs.Masks.{setOf-lt}
-use Rattle.members.proofs.Words.{size-31}
 use Rattle.shares.specs.Layout.{width}
 use Rattle.handin.specs.Lines.{parts}
-use Rattle.handin.specs.Reader.{Share, capacity, shareOf, isSome, Taken, shares, refused, takeLine, takeLines, unread, readFrom}
+use Rattle.handin.specs.Reader.{Share, capacity, Taken, shares, refused, takeLine, takeLines, unread, readFrom}
 use Rattle.handin.specs.Scanning.{after, FirstEnds}
 use Rattle.handin.specs.Progress.{InRange, Holds, Comes}
 use Rattle.handin.specs.Answers.{answerOf, cleared}
@@ -56,13 +54,6 @@ unended t d taken [] h = absurd (not-suc-le-zero h)
 unended t d taken (b ∷ bs) h = lines-unended t d taken b bs
 
 module _ (t d : ℕ) (all : Taken) (rest : List ℕ) (present : ℕ) (words : List ℕ) (s : Reached t d all rest present words) where
-  pub reached-mask : InRange t d → present < 2147483648
-  reached-mask r =
-      let two : 0 < 2 = omega arith in
-      let p : 2 ^ size t ≤ 2 ^ 31 = pow-le-pow-right two (size-31 t (r .t-high)) in
-      let q : 2 ^ 31 ≡ 2147483648 = refl in
-      omega (arith, p, q, s .holds .members, setOf-lt (size t) (λ i. isSome (shareOf (s .taken) i)))
-
   pub reached-end : length rest ≤ 0 → all ≡ shares (s .taken)
   reached-end h =
       let e : rest ≡ [] = drop-of-length-le rest h in

@@ -12,12 +12,13 @@ use lib.ListN.{length, getD, drop}
 use Rattle.lists.specs.Checks.{Check, _unless_, checked, within}
 use Rattle.lists.specs.Tabulate.{each}
 use Rattle.lists.proofs.Bools.{test}
-use Rattle.lists.proofs.Checks.{check-fails, check-passes, all-passed, number-fits, within-low, within-high}
+use Rattle.lists.proofs.Checks.{check-fails, check-passes, all-passed, number-fits}
 use Rattle.members.specs.Members.{size, isThreshold}
 use Rattle.shares.specs.Layout.{width, isLength}
 use Rattle.handin.specs.Lines.{parts, lineOf}
 use Rattle.handin.specs.Reader.{HandIn, Share, shareOf, isSome, Taken, shares, refused, capacity, takeShare, takeNumbers, takeLine, takeLines, unread, readFrom, readNumbers, readLines, read}
 use Rattle.handin.specs.Progress.{InRange}
+use Rattle.handin.proofs.Taking.{in-range}
 
 -- a refusal's number is not 0, and fits a word
 record Told (k : ℕ) : Type 0 where
@@ -82,13 +83,7 @@ module _ (len : ℕ) where
               | inr f ↦ rw (check-fails (unread len) 22 (isLength d) [] answer f) (sound-unread 22 22-told)
               | inl f ↦
                   rw (check-passes (unread len) 22 (isLength d) [] answer f)
-                  (h
-                  (record {
-                    t-low = within-low 1 15 t e;
-                    t-high = within-high 1 15 t e;
-                    d-low = within-low 1 64 d f;
-                    d-high = within-high 1 64 d f;
-                  }))
+                  (h (in-range t d e f))
             ])
       ]
 
