@@ -77,10 +77,8 @@ module _ (t d n w : ℕ) (words : List ℕ) (room : Room t d n w words) (present
                   usable-words t d present words i l (survivor-usable t d able words (survivors t rows) (survivors-largest t rows .closed) i l h) k (omega arith);
             })
 
-        pub counted-survivors : (v : ℕ) → v ≡ card 32 s → (t < v) × (v ≡ card (size t) s)
-        counted-survivors v e =
-            let q : v ≡ card (size t) s = e ∙ card-32 t s (within-high 1 15 t (room .threshold)) (decodable .below) in
-            (omega (arith, q, decodable .enough), q)
+        pub counted-survivors : (v : ℕ) → v ≡ card 32 s → v ≡ card (size t) s
+        counted-survivors v e = e ∙ card-32 t s (within-high 1 15 t (room .threshold)) (decodable .below)
 
         abbrev sought : Option (List (List ℕ))
         sought = find (ownPoints t) t d (word t d words) s
