@@ -2,16 +2,13 @@
 -- Assumes nothing.
 use mathlib.Core.Path.{_≡_}
 use Prim.Native.Nat.{ℕ, suc, _+_, _*_, _≤_, _<_}
-use native.Mathlib.Nat.{mul-le-mul, mul-le-mul-left, mul-le-mul-right, suc-mul, mul-suc}
+use native.Mathlib.Nat.{mul-le-mul, mul-le-mul-left, mul-suc}
 use native.Mathlib.Omega.{arith}
 use Rattle.members.specs.Members.{size}
 use Rattle.members.proofs.Words.{size-31}
 use Rattle.shares.specs.Layout.{width}
+use Rattle.shares.proofs.Places.{row-inside}
 use Rattle.dealing.specs.Dealing.{randomLength}
-
--- one of n rows of w words
-pub row-inside : (i n w : ℕ) → i < n → i * w + w ≤ n * w
-row-inside i n w h = let m : suc i * w ≤ n * w = mul-le-mul-right w h in omega (arith, m, suc-mul i w)
 
 pub coefficients-le : (t d : ℕ) → t ≤ 15 → d ≤ 64 → t * d ≤ 960
 coefficients-le t d p q = mul-le-mul {n₂ = 15} {m₂ = 64} p q

@@ -11,6 +11,7 @@ use lib.Seq.{drop-cons, take-all}
 use Rattle.lists.specs.Checks.{refusal}
 use Rattle.members.specs.Members.{size}
 use Rattle.shares.specs.Layout.{width}
+use Rattle.shares.proofs.Places.{all-fit}
 use Rattle.handin.specs.Lines.{parts}
 use Rattle.handin.specs.Reader.{Share, capacity, Taken, shares, refused, takeLine, takeLines, unread, readFrom}
 use Rattle.handin.specs.Scanning.{after, FirstEnds}
@@ -21,7 +22,6 @@ use Rattle.handin.specs.declared.Line.the-variants as L
 use Rattle.handin.specs.declared.Outcome.the-variants as O
 use Rattle.handin.proofs.Lines.{parts-some, lines-next, lines-refused, lines-unended, text-end}
 use Rattle.handin.proofs.Placing.{holds-none}
-use Rattle.handin.proofs.Taking.{place-end}
 
 -- all lines come to what the lines left do, after the shares taken
 pub record Reached (t d : ℕ) (all : Taken) (rest : List ℕ) (present : ℕ) (words : List ℕ) : Type 0 where
@@ -29,15 +29,10 @@ pub record Reached (t d : ℕ) (all : Taken) (rest : List ℕ) (present : ℕ) (
   pub so : all ≡ takeLines t d taken (parts 10 rest)
   pub holds : Holds t d taken present words
 
-fits : (t d : ℕ) → InRange t d → size t * width t d ≤ 4867
-unfolding size width
-fits t d r =
-    let h : 2 * t < 2 * t + 1 = omega arith in
-    omega (arith, place-end t d (2 * t) r h)
-
 pub reached-start : (t d : ℕ) (text words : List ℕ) → InRange t d → length words ≡ capacity → words ≡ replicate (length words) 0 → Reached t d (takeLines t d [] (parts 10 text)) text 0 words
+unfolding size width
 reached-start t d text words r len zeros =
-    let h : size t * width t d ≤ length words = omega (arith, fits t d r, len) in
+    let h : size t * width t d ≤ length words = omega (arith, all-fit t d (r .t-high) (r .d-high), len) in
     record { taken = []; so = refl; holds = subst (Holds t d [] 0) (sym zeros) (holds-none t d (length words) len h) }
 
 -- a text that ends at e, or has a byte 10 there

@@ -4,8 +4,8 @@ use mathlib.Core.Path.{_≡_, refl, sym, ap, ap₂, _∙_}
 use mathlib.Core.Bool.{Bool, true, false, cond}
 use mathlib.Core.Option.{none, some}
 use mathlib.Core.List.{List, _∷_}
-use Prim.Native.Nat.{ℕ, suc, _+_, _-_, _*_, _≤_, _<_}
-use native.Mathlib.Nat.{mul-le-mul}
+use Prim.Native.Nat.{ℕ, _+_, _-_, _*_, _≤_, _<_}
+use native.Mathlib.Nat.{le-trans}
 use native.Mathlib.Omega.{arith}
 use lib.ListN.{length, getD, take, drop, length-drop}
 use lib.Seq.{sets, length-take-le}
@@ -14,6 +14,7 @@ use Rattle.lists.proofs.Checks.{within-low, within-high}
 use Rattle.members.specs.Members.{isThreshold, size, has, adding}
 use Rattle.members.proofs.Words.{size-31}
 use Rattle.shares.specs.Layout.{isLength, width}
+use Rattle.shares.proofs.Places.{row-inside, all-fit}
 use Rattle.handin.specs.Lines.{lineOf}
 use Rattle.handin.specs.Reader.{Share, shareOf, isSome, shares, takeShare, takeNumbers, takeLine}
 use Rattle.handin.specs.Progress.{InRange, Holds, Comes}
@@ -28,10 +29,7 @@ in-range t d p q = record { t-low = within-low 1 15 t p; t-high = within-high 1 
 
 -- a share's place ends in the buffer
 pub place-end : (t d i : ℕ) → InRange t d → i < 2 * t + 1 → i * (d + 3 * (2 * t + 1)) + (d + 3 * (2 * t + 1)) ≤ 4867
-place-end t d i r h =
-    let a : suc i ≤ 31 = omega (arith, r .t-high) in
-    let b : d + 3 * (2 * t + 1) ≤ 157 = omega (arith, r .t-high, r .d-high) in
-    omega (arith, mul-le-mul a b)
+place-end t d i r h = le-trans (row-inside i (2 * t + 1) (d + 3 * (2 * t + 1)) h) (all-fit t d (r .t-high) (r .d-high))
 
 pub member-end : (t d m : ℕ) → InRange t d → within 1 (2 * t + 1) m ≡ true → (m - 1) * (d + 3 * (2 * t + 1)) + (d + 3 * (2 * t + 1)) ≤ 4867
 member-end t d m r one = place-end t d (m - 1) r (omega (arith, within-low 1 (2 * t + 1) m one, within-high 1 (2 * t + 1) m one))

@@ -1,7 +1,7 @@
 -- Opening word by word comes to the polynomials of all words: the turn of the loop, for any distinct points.
 -- Assumes nothing.
 use mathlib.Core.Path.{_≡_, refl, sym, ap, ap₂, _∙_, subst}
-use mathlib.Core.Bool.{Bool, true, false, _&&_, cond, and-true}
+use mathlib.Core.Bool.{Bool, _&&_, cond, and-true, and-assoc}
 use mathlib.Core.Logic.{inl, inr}
 use mathlib.Core.Option.{Option, none, some, Option·none-ne-some, Option·some-injective}
 use mathlib.Core.List.{List, [], _∷_, _++_}
@@ -100,13 +100,9 @@ module _ (xs : List ℕ) (distinct : Distinct xs) (t : ℕ) (long : length xs �
               ∙ setOf-ext (size t) (λ i. has agreed i && eqb (value (nth fs 0) (getD xs i 0)) (y i k)) (meetsAll (suc k))
               (λ i l.
               ap₂ (λ (b : Bool) (f : List ℕ). b && eqb (value f (getD xs i 0)) (y i k)) (ap (λ (m : ℕ). has m i) (going .members) ∙ has-setOf (size t) (meetsAll k) i l) (sym p)
-              ∙ join (has s i) (all k (λ j. eqb (value (poly j) (getD xs i 0)) (y i j))) (eqb (value (poly k) (getD xs i 0)) (y i k))
+              ∙ and-assoc (has s i) (all k (λ j. eqb (value (poly j) (getD xs i 0)) (y i j))) (eqb (value (poly k) (getD xs i 0)) (y i k))
               ∙ ap (λ (b : Bool). has s i && b) (sym (all-last k (λ j. eqb (value (poly j) (getD xs i 0)) (y i j))))),
         )
-      where
-        join : (a b c : Bool) → a && b && c ≡ a && (b && c)
-        join true b c = refl
-        join false b c = refl
 
     each-more : (find xs t 1 (wordAt y k) s ≡ some (poly k ∷ [])) → (j : ℕ) → j < suc k → find xs t 1 (wordAt y j) s ≡ some (poly j ∷ [])
     each-more e j l =

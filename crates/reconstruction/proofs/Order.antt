@@ -4,7 +4,6 @@ use mathlib.Core.Path.{_≡_, refl, sym, ap, _∙_}
 use mathlib.Core.Bool.{Bool, true, false}
 use mathlib.Core.List.{List}
 use Prim.Native.Nat.{ℕ, _+_, _*_, _≤_, _<_, _^_}
-use native.Mathlib.Nat.{mul-le-mul}
 use native.Mathlib.Omega.{arith}
 use lib.Dec.{leb}
 use lib.ListN.{length}
@@ -14,6 +13,7 @@ use Rattle.lists.proofs.Checks.{within-high}
 use Rattle.members.specs.Members.{isThreshold, size, ownPoints, isSet, firstOf}
 use Rattle.members.proofs.Words.{firstOf-isSet}
 use Rattle.shares.specs.Layout.{width, word}
+use Rattle.shares.proofs.Places.{all-fit}
 use Rattle.reconstruction.specs.Reconstruction.{Opened, unopened, isQuorum, finish, reconstruct}
 use Rattle.reconstruction.specs.Room.{Room}
 use Rattle.reconstruction.specs.Votes.{usable, voteRows}
@@ -47,7 +47,7 @@ module _ (t d present quorum : ℕ) (words : List ℕ) (b1 : Bool) (e1 : b1 ≡ 
 
       -- the largest buffer of shares
       pub most-words : (2 * t + 1) * (d + 3 * (2 * t + 1)) ≤ 4867
-      most-words = mul-le-mul {n₂ = 31} {m₂ = 157} (omega (arith, t-most)) (omega (arith, t-most, d-most))
+      most-words = all-fit t d t-most d-most
 
       pub refused-11 : (length words ≡ (2 * t + 1) * (d + 3 * (2 * t + 1)) → ⊥) → (answer : Opened) → answer ≡ unopened d 0 11 → answer ≡ opened
       unfolding reconstruct size width
