@@ -9,27 +9,26 @@ use native.Mathlib.Omega.{arith}
 use lib.Dec.{eqb}
 use lib.ListN.{length}
 use borrow.Author.Tests.{eq-eqb}
-use Rattle.lists.specs.Tabulate.{all, count}
 use Rattle.lists.proofs.Bools.{and-intro, same-test}
 use Rattle.lists.proofs.Count.{count-none}
 use Rattle.lists.proofs.Every.{Every}
 use Rattle.lists.proofs.Tabulate.{all-intro}
 use Rattle.field.specs.Field.{prime}
 use Rattle.polynomial.proofs.Roots.{Distinct}
-use Rattle.members.specs.Members.{size, ownPoints, has, setOf, card}
+use Rattle.members.specs.Members.{size, ownPoints, has, card}
 use Rattle.members.proofs.Masks.{setOf-ext, setOf-has, subsets-equal, card-setOf, card-mono}
 use Rattle.shares.specs.Layout.{width, word}
 use Rattle.decoding.specs.Decoding.{surplus, agreeing}
-use Rattle.decoding.proofs.Points.{length-own}
+use Rattle.decoding.proofs.Points.{own-distinct, length-own}
 use Rattle.decoding.proofs.Unique.{agrees, agrees-member}
 use Rattle.dealing.specs.Dealing.{polynomial, dealtShares}
 use Rattle.dealing.proofs.Laws.{InRange}
 use Rattle.reconstruction.specs.Votes.{usable, voteRows}
-use Rattle.reconstruction.specs.Reconstruction.{Opened, isQuorum, required, finish, reconstruct}
+use Rattle.reconstruction.specs.Reconstruction.{Opened, isQuorum, required, finish}
 use Rattle.reconstruction.proofs.Meaning.{usable-present, survivor-usable}
 use Rattle.reconstruction.proofs.Opening.{required-least}
-use Rattle.claims.specs.Demands.{Dealing, HandedIn, AsDealt, altered, Sound, Demand2}
-use Rattle.claims.proofs.Demand3.{kept, kept-agrees, dealt-fits, dealt-zero, sound, in-range, dealt-is, own-points, second-half}
+use Rattle.claims.specs.Demands.{AsDealt, altered, Sound, Demand2}
+use Rattle.claims.proofs.Demand3.{kept, kept-agrees, dealt-fits, dealt-zero, sound, in-range, dealt-is, second-half}
 
 -- a member whose share is as dealt has its dealt share words
 as-dealt-kept : (t d present : ℕ) (dealt words : List ℕ) (i : ℕ) → AsDealt t d present dealt words i → kept t d dealt words i ≡ true
@@ -107,6 +106,6 @@ demand2 t present quorum secret random dealt words dealing handed as-dealt =
     let d : ℕ = length secret in
     let r : InRange t secret random (dealing .buffer) = in-range t secret random dealt dealing in
     second-half t secret random dealt dealing present quorum words handed
-    ∙ opens-dealt (ownPoints t) (own-points t secret random dealt dealing) t (length-own t) secret random (r .secret-words) (r .random-words) present quorum words
+    ∙ opens-dealt (ownPoints t) (own-distinct t (r .threshold-high)) t (length-own t) secret random (r .secret-words) (r .random-words) present quorum words
     (handed .n-members) (handed .is-quorum) (handed .met)
     (subst (λ (dl : List ℕ). (i : ℕ) → i < size t → has present i ≡ true → AsDealt t d present dl words i) (dealt-is t secret random dealt dealing) as-dealt)

@@ -1,28 +1,28 @@
 -- Demand 3, for any distinct points, and so for the members' own.
 -- Assumes nothing.
-use mathlib.Core.Path.{_≡_, refl, sym, ap, ap₂, _∙_, subst}
-use mathlib.Core.Bool.{Bool, true, false, _&&_, not}
+use mathlib.Core.Path.{_≡_, sym, ap, _∙_, subst}
+use mathlib.Core.Bool.{Bool, true, _&&_, not}
 use mathlib.Core.List.{List}
 use Prim.Native.Nat.{ℕ, suc, _/_, _≤_, _<_}
 use native.Mathlib.Nat.{le-trans, le-of-eq}
-use native.Mathlib.Omega.{arith}
 use lib.Dec.{eqb}
 use lib.ListN.{length, getD}
-use borrow.Author.Tests.{eq-eqb, eqb-true, le-leb}
-use Rattle.lists.specs.Tabulate.{tab, all, count}
+use borrow.Author.Tests.{eq-eqb, eqb-true}
+use Rattle.lists.specs.Tabulate.{all, count}
 use Rattle.lists.proofs.Bools.{and-intro, and-left, and-right}
+use Rattle.lists.proofs.Checks.{within-intro}
 use Rattle.lists.proofs.Count.{count-mono, count-split}
 use Rattle.lists.proofs.Every.{Every, every-at}
 use Rattle.lists.proofs.Tabulate.{tab-ext, tab-getD, all-intro, all-elim}
 use Rattle.field.specs.Field.{prime}
 use Rattle.polynomial.specs.Polynomial.{value}
 use Rattle.polynomial.proofs.Roots.{Distinct}
-use Rattle.members.specs.Members.{size, ownPoints, has, setOf, card}
+use Rattle.members.specs.Members.{size, ownPoints, has, card}
 use Rattle.members.proofs.Masks.{card-setOf}
-use Rattle.shares.specs.Layout.{width, word}
+use Rattle.shares.specs.Layout.{word}
 use Rattle.pruning.specs.Pruning.{Largest, survivors}
 use Rattle.pruning.proofs.Largest.{survivors-largest}
-use Rattle.decoding.specs.Decoding.{surplus, need, agreeing, Fits}
+use Rattle.decoding.specs.Decoding.{surplus, Fits}
 use Rattle.decoding.proofs.Points.{own-distinct, length-own}
 use Rattle.decoding.proofs.Unique.{need-most, agrees, card-agreeing}
 use Rattle.dealing.specs.Dealing.{Dealt, polynomial, dealtShares}
@@ -125,9 +125,6 @@ module _ (t : ℕ) (secret random dealt : List ℕ) (dealing : Dealing t secret 
   pub dealt-is : dealt ≡ dealtShares (ownPoints t) t secret random
   dealt-is = accepted-shares t secret random (dealing .buffer) dealt (dealing .accepted)
 
-  pub own-points : Distinct (ownPoints t)
-  own-points = own-distinct t (in-range .threshold-high)
-
   -- opening goes on to its second half
   pub second-half : (present quorum : ℕ) (words : List ℕ) → HandedIn t (length secret) present quorum words
       → reconstruct t (length secret) present quorum words
@@ -135,8 +132,8 @@ module _ (t : ℕ) (secret random dealt : List ℕ) (dealing : Dealing t secret 
       (voteRows t (length secret) (usable t (length secret) present words) words) (word t (length secret) words)
   second-half present quorum words handed =
       reconstruct-finishes t (length secret) present quorum words
-      (and-intro (le-leb 1 t (in-range .threshold-low)) (le-leb t 15 (in-range .threshold-high)))
-      (and-intro (le-leb 1 (length secret) (in-range .length-low)) (le-leb (length secret) 64 (in-range .length-high)))
+      (within-intro 1 15 t (in-range .threshold-low) (in-range .threshold-high))
+      (within-intro 1 64 (length secret) (in-range .length-low) (in-range .length-high))
       (handed .n-shares) (handed .n-members) (handed .is-quorum)
 
 -- Demand 3.
@@ -151,6 +148,6 @@ demand3 t present quorum secret random dealt words dealing handed honest many as
     (sym (dealt-is t secret random dealt dealing))
     (λ s. subst (Sound (ownPoints t) t d present secret (dealtShares (ownPoints t) t secret random) words)
     (sym (second-half t secret random dealt dealing present quorum words handed))
-    (sound (ownPoints t) (own-points t secret random dealt dealing) t (length-own t) secret random (r .secret-words) (r .random-words) present quorum words
+    (sound (ownPoints t) (own-distinct t (r .threshold-high)) t (length-own t) secret random (r .secret-words) (r .random-words) present quorum words
     (handed .met) honest many s))
     as-dealt

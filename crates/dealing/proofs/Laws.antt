@@ -6,17 +6,16 @@ use mathlib.Core.List.{List, [], _∷_, _++_, append-assoc}
 use Prim.Native.Nat.{ℕ, suc, _+_, _*_, _≤_, _<_}
 use native.Mathlib.Nat.{suc-ne-zero}
 use native.Mathlib.Omega.{arith}
-use lib.Dec.{leb, eqb}
+use lib.Dec.{eqb}
 use lib.ListN.{length, getD, drop, length-append, length-take, length-drop, List·getD-append}
 use lib.Seq.{length-take-le}
-use borrow.Author.Tests.{ltb-true, lt-ltb, leb-true, le-leb, eqb-true, eq-eqb}
+use borrow.Author.Tests.{ltb-true, lt-ltb, eqb-true, eq-eqb}
 use Rattle.lists.specs.Tabulate.{tab, each}
 use Rattle.lists.specs.Checks.{_unless_, checked, Check}
-use Rattle.lists.proofs.Bools.{and-intro, and-left, and-right}
 use Rattle.lists.proofs.Every.{Every, none, more, every-map}
 use Rattle.lists.proofs.Tabulate.{length-tab, getD-tab, tab-ext}
 use Rattle.lists.proofs.Blocks.{getD-after, length-concat, getD-concat, every-append, every-tab, every-concat, every-getD, each-every, every-each}
-use Rattle.lists.proofs.Checks.{pass-of}
+use Rattle.lists.proofs.Checks.{pass-of, within-intro, within-low, within-high}
 use Rattle.field.specs.Field.{prime, isFieldWord}
 use Rattle.polynomial.specs.Polynomial.{eval, value}
 use Rattle.polynomial.proofs.Evaluation.{value-word}
@@ -215,8 +214,8 @@ module _ (t : ℕ) (secret random buffer : List ℕ) where
       → deal t secret random buffer ≡ record { number = 0; shares = dealtShares (ownPoints t) t secret random }
   in-range-accepted r =
       sym
-      (dealt t secret random buffer (and-intro (le-leb 1 t (r .threshold-low)) (le-leb t 15 (r .threshold-high)))
-      (and-intro (le-leb 1 (length secret) (r .length-low)) (le-leb (length secret) 64 (r .length-high)))
+      (dealt t secret random buffer (within-intro 1 15 t (r .threshold-low) (r .threshold-high))
+      (within-intro 1 64 (length secret) (r .length-low) (r .length-high))
       (eq-eqb (length random) (randomLength t (length secret)) (r .random-length))
       (eq-eqb (length buffer) (size t * width t (length secret)) (r .buffer-length))
       (words-field (r .secret-words)) (words-field (r .random-words)) (dealtShares (ownPoints t) t secret random) refl)
@@ -238,10 +237,10 @@ module _ (t : ℕ) (secret random buffer : List ℕ) where
       let p5 : (each isFieldWord secret ≡ true) × (checked (refusal buffer) checks6 answer .number ≡ 0) = one-passed 4 (each isFieldWord secret) checks6 answer (p4 .1) in
       let p6 : (each isFieldWord random ≡ true) × (answer .number ≡ 0) = one-passed 5 (each isFieldWord random) [] answer (p5 .1) in
       record {
-        threshold-low = leb-true 1 t (and-left (leb 1 t) (leb t 15) (p1 .0));
-        threshold-high = leb-true t 15 (and-right (leb 1 t) (leb t 15) (p1 .0));
-        length-low = leb-true 1 d (and-left (leb 1 d) (leb d 64) (p2 .0));
-        length-high = leb-true d 64 (and-right (leb 1 d) (leb d 64) (p2 .0));
+        threshold-low = within-low 1 15 t (p1 .0);
+        threshold-high = within-high 1 15 t (p1 .0);
+        length-low = within-low 1 64 d (p2 .0);
+        length-high = within-high 1 64 d (p2 .0);
         random-length = eqb-true (length random) (randomLength t d) (p3 .0);
         buffer-length = eqb-true (length buffer) (size t * width t d) (p4 .0);
         secret-words = field-words secret (p5 .0);

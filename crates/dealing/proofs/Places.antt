@@ -2,25 +2,19 @@
 -- Assumes nothing.
 use mathlib.Core.Path.{_≡_}
 use Prim.Native.Nat.{ℕ, suc, _+_, _*_, _≤_, _<_}
-use native.Mathlib.Nat.{mul-le-mul, mul-le-mul-left, mul-le-mul-right, suc-mul, mul-suc}
+use native.Mathlib.Nat.{mul-le-mul, mul-le-mul-left, mul-suc}
 use native.Mathlib.Omega.{arith}
 use Rattle.members.specs.Members.{size}
+use Rattle.members.proofs.Words.{size-31}
 use Rattle.shares.specs.Layout.{width}
+use Rattle.shares.proofs.Places.{row-inside}
 use Rattle.dealing.specs.Dealing.{randomLength}
-
--- one of n rows of w words
-pub row-inside : (i n w : ℕ) → i < n → i * w + w ≤ n * w
-row-inside i n w h = let m : suc i * w ≤ n * w = mul-le-mul-right w h in omega (arith, m, suc-mul i w)
-
-pub size-le : (t : ℕ) → t ≤ 15 → size t ≤ 31
-unfolding size
-size-le t h = omega arith
 
 pub coefficients-le : (t d : ℕ) → t ≤ 15 → d ≤ 64 → t * d ≤ 960
 coefficients-le t d p q = mul-le-mul {n₂ = 15} {m₂ = 64} p q
 
 pub row-le : (t i : ℕ) → t ≤ 15 → i < size t → i * size t ≤ 961
-row-le t i p q = let n : size t ≤ 31 = size-le t p in mul-le-mul {n₂ = 31} {m₂ = 31} (omega arith) n
+row-le t i p q = let n : size t ≤ 31 = size-31 t p in mul-le-mul {n₂ = 31} {m₂ = 31} (omega arith) n
 
 -- word k's coefficients are among the random words
 pub coefficients-inside : (t d k count : ℕ) → count ≡ randomLength t d → k < d → t * k + t ≤ count
@@ -39,4 +33,4 @@ unfolding width
 share-inside t d i count e h = omega (arith, e, row-inside i (size t) (d + 3 * size t) h)
 
 pub square-le : (t : ℕ) → t ≤ 15 → size t * size t ≤ 961
-square-le t p = mul-le-mul {n₂ = 31} {m₂ = 31} (size-le t p) (size-le t p)
+square-le t p = mul-le-mul {n₂ = 31} {m₂ = 31} (size-31 t p) (size-31 t p)

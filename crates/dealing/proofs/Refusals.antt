@@ -1,33 +1,18 @@
 -- Dealing by its checks: the first that fails refuses and leaves the buffer, and where all pass the shares are dealt.
 -- Assumes nothing.
-use mathlib.Core.Path.{_≡_, refl, sym, _∙_}
-use mathlib.Core.Bool.{Bool, true, false, not}
+use mathlib.Core.Path.{_≡_, refl}
+use mathlib.Core.Bool.{true, false}
 use mathlib.Core.List.{List, [], _∷_}
 use Prim.Native.Nat.{ℕ, _*_, _≤_, zero-le}
-use lib.Dec.{leb, eqb}
+use lib.Dec.{eqb}
 use lib.ListN.{length}
-use borrow.Author.Tests.{not-true, not-false, leb-true}
 use Rattle.lists.specs.Tabulate.{each}
 use Rattle.lists.specs.Checks.{_unless_}
-use Rattle.lists.proofs.Bools.{and-right}
 use Rattle.lists.proofs.Checks.{number-fits}
 use Rattle.field.specs.Field.{isFieldWord}
 use Rattle.members.specs.Members.{isThreshold, size, ownPoints}
 use Rattle.shares.specs.Layout.{isLength, width}
 use Rattle.dealing.specs.Dealing.{randomLength, dealtShares, Dealt, deal}
-
--- a test that the code negates
-pub fails : (r b : Bool) → r ≡ b → not r ≡ true → b ≡ false
-fails r b e h = sym e ∙ not-true r h
-
-pub passes : (r b : Bool) → r ≡ b → not r ≡ false → b ≡ true
-passes r b e h = sym e ∙ not-false r h
-
-pub threshold-le : (t : ℕ) → isThreshold t ≡ true → t ≤ 15
-threshold-le t h = leb-true t 15 (and-right (leb 1 t) (leb t 15) h)
-
-pub length-le : (d : ℕ) → isLength d ≡ true → d ≤ 64
-length-le d h = leb-true d 64 (and-right (leb 1 d) (leb d 64) h)
 
 -- a refusal leaves the buffer
 abbrev pub refusal : List ℕ → ℕ → Dealt

@@ -118,7 +118,7 @@ fn fill_shares(t: usize, secret: &[u16], random: &[u16], shares: &mut [u16])
 pub fn deal(t: usize, secret: &[u16], random: &[u16], shares: &mut [u16]) -> Outcome
     ensures { λ r. ⌜ answerOf r (now (shares .exit)) ≡ dealOf t (now (secret .entry)) (now (random .entry)) (now (shares .entry)) ⌝ }
 {
-    if !lists::within(1, 15, t) {
+    if !members::threshold(t) {
         return Outcome::Refused(1);
     }
     let d = secret.len();

@@ -14,7 +14,7 @@ use Rattle.field.proofs.Congruence.{_≈_, same-refl, same-sym, same-trans, sam
 use Rattle.field.proofs.Fermat.{no-zero-divisors}
 use Rattle.field.proofs.Operations.{sum-same, difference-same, product-same}
 use Rattle.polynomial.specs.Polynomial.{eval}
-use Rattle.polynomial.proofs.Evaluation.{eval-zero, combine, eval-combine}
+use Rattle.polynomial.proofs.Evaluation.{eval-zero, linear-step, combine, eval-combine}
 use Rattle.polynomial.proofs.Roots.{Distinct, roots}
 use Rattle.decoding.specs.Algorithm.{raised, mixed}
 
@@ -164,14 +164,11 @@ last-zero m c (a ∷ []) h l = h .zeros 0 (le-of-suc-le-suc l)
 last-zero zero c (a ∷ b ∷ f) h l = last-zero zero a (b ∷ f) (from-none h) (suc-le-suc zero-le)
 last-zero (suc m) c (a ∷ b ∷ f) h l = last-zero m a (b ∷ f) (from-tail h) (le-of-suc-le-suc l)
 
-raised-step : (x c a z e g : ℕ) → e ≈ a + (z + 65520 * x) * g → c + 65520 * x * a + z * e ≈ c + (z + 65520 * x) * (a + z * g)
-raised-step x c a z e g h = lc (times z h) (same-eq (omega arith))
-
 eval-raised-last : (x c : ℕ) (f : List ℕ) (z : ℕ) → lastOf c f ≈ 0 → eval (raised x c f) z ≈ c + (z + 65520 * x) * eval f z
 unfolding raised eval lastOf
 eval-raised-last x c [] z h = lc (same-sym h) (same-eq (omega arith))
 eval-raised-last x c (a ∷ f) z h =
-    same-trans (raised-term x c a ⊕ same-refl) (raised-step x c a z (eval (raised x a f) z) (eval f z) (eval-raised-last x a f z h))
+    same-trans (raised-term x c a ⊕ same-refl) (linear-step x c a z (eval (raised x a f) z) (eval f z) (eval-raised-last x a f z h))
 
 pub eval-raised : (x m : ℕ) (f : List ℕ) (z : ℕ) → From m f → m < length f → eval (raised x 0 f) z ≈ (z + 65520 * x) * eval f z
 eval-raised x m f z h l = same-trans (eval-raised-last x 0 f z (last-zero m 0 f h l)) (same-eq (omega arith))

@@ -9,6 +9,7 @@ use native.Mathlib.Omega.{arith}
 use lib.ListN.{length, getD, set as store, replicate}
 use Rattle.lists.proofs.Count.{count-le}
 use Rattle.members.specs.Members.{size, ownPoints, has}
+use Rattle.members.proofs.Words.{size-31}
 use Rattle.decoding.specs.Algorithm.{State, start, stepped, passed}
 use Rattle.decoding.proofs.Points.{own-distinct, length-own, own-point}
 use Rattle.decoding.proofs.Invariant.{Holds, passed-holds}
@@ -17,10 +18,6 @@ use Rattle.decoding.proofs.Steps.{pairs}
 pub record Turn (t : ℕ) (values : List ℕ) (set : ℕ) (s : State) (i : ℕ) : Type 0 where
   pub inside : i ≤ length values
   pub so-far : s ≡ passed (ownPoints t) t (λ k. getD values k 0) set 31 i
-
-pub size-31 : (t : ℕ) → t ≤ 15 → size t ≤ 31
-unfolding size
-size-31 t h = omega arith
 
 small-31 : (t : ℕ) → t ≤ 15 → t < 31
 small-31 t h = omega arith

@@ -11,7 +11,7 @@ use lib.ListN.{length, getD}
 use borrow.Author.Tests.{ltb-true, eqb-true}
 use Rattle.lists.specs.Tabulate.{all, each}
 use Rattle.lists.specs.Checks.{Check, _unless_, checked}
-use Rattle.lists.proofs.Checks.{check-fails, check-passes, number-fits}
+use Rattle.lists.proofs.Checks.{check-fails, check-passes, number-fits, within-high}
 use Rattle.field.specs.Field.{isFieldWord}
 use Rattle.members.specs.Members.{isThreshold, size, ownPoints, has, isSet, card, firstOf}
 use Rattle.members.proofs.Words.{size-le, size-of, firstOf-isSet}
@@ -112,16 +112,12 @@ module _ (t : ℕ) (values : List ℕ) (set len : ℕ) where
 
 -- ---- the code's tests are these
 
-pub small : (t : ℕ) → isThreshold t ≡ true → t ≤ 15
-unfolding size
-small t h = let l : size t ≤ 31 = size-le t h in omega arith
-
 pub proper-test : (t set first : ℕ) → isThreshold t ≡ true → first ≡ firstOf (2 * t + 1) → leb set first ≡ isSet (size t) set
 proper-test t set first h e =
     ap (leb set) (e ∙ ap firstOf (size-of t)) ∙ firstOf-isSet (size t) set (omega (arith, size-le t h))
 
 pub members-test : (t set s : ℕ) → isThreshold t ≡ true → isSet (size t) set ≡ true → s ≡ card 32 set → leb (suc t) s ≡ leb (suc t) (card (size t) set)
-members-test t set s h p e = ap (leb (suc t)) (e ∙ card-32 t set (small t h) (ltb-true set (2 ^ size t) p))
+members-test t set s h p e = ap (leb (suc t)) (e ∙ card-32 t set (within-high 1 15 t h) (ltb-true set (2 ^ size t) p))
 
 pub words-test : (t : ℕ) (values : List ℕ) (set : ℕ) (answer : Bool) → eqb (length values) (size t) ≡ true → answer ≡ all (length values) (judgedAt values set)
     → answer ≡ all (size t) (judgedAt values set)

@@ -2,7 +2,7 @@
 -- Assumes nothing.
 use mathlib.Core.Path.{_≡_, refl, sym, ap, ap₂, _∙_, subst}
 use mathlib.Core.Logic.{_⊎_, inl, inr}
-use mathlib.Core.Bool.{Bool, true, false, cond, _&&_, _||_, not}
+use mathlib.Core.Bool.{Bool, true, false, cond, _&&_, _||_, not, and-true}
 use mathlib.Core.List.{List, [], _∷_, _++_, map, map-append, append-nil}
 use Prim.Native.Nat.{ℕ, suc, _+_, _-_, _≤_, _<_, zero-le}
 use native.Mathlib.Nat.{le-refl, le-of-eq, le-trans, add-zero, not-suc-le-zero, not-le-of-lt}
@@ -14,7 +14,7 @@ use lib.ListN.{length, getD, take, set as store, length-set, length-append}
 use lib.Seq.{take-suc-set, take-set-le, take-at, take-all}
 use borrow.Author.Tests.{eq-eqb, ne-eqb, not-true, not-false}
 use Rattle.lists.specs.Tabulate.{tab, all, count, keep}
-use Rattle.lists.proofs.Bools.{test, clash, false-of}
+use Rattle.lists.proofs.Bools.{clash, false-of}
 use Rattle.lists.proofs.Count.{toℕ, toℕ-le, count-le, count-last}
 use Rattle.lists.proofs.Tabulate.{all-intro, all-elim}
 use Rattle.polynomial.specs.Polynomial.{value}
@@ -95,11 +95,7 @@ counted-small p n m i t = omega (arith, t .so-far, t .inside, count-le i p)
 
 all-one : (p : ℕ → Bool) → all 1 p ≡ p 0
 unfolding all
-all-one p = at (p 0)
-  where
-    at : (b : Bool) → b && true ≡ b
-    at true = refl
-    at false = refl
+all-one p = and-true (p 0)
 
 module _ (t : ℕ) (values : List ℕ) (set : ℕ) (f : List ℕ) where
   -- the code's test at member i is the definition's

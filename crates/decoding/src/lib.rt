@@ -264,12 +264,16 @@ fn agreeing(t: usize, f: &[u16], values: &[u16], set: u32) -> usize
 }
 
 // How many of s members have to agree.
-pub fn need(t: usize, s: usize) -> usize
-    requires { ⌜ (t ≤ 15) × (t < s) × (s ≤ 32) ⌝ }
+pub fn need(t: u16, s: u32) -> usize
     ensures { λ r. ⌜ r ≡ need t s ⌝ }
 {
-    let surplus = s - (t + 1);
-    t + 1 + (surplus + 1) / 2
+    let least = t as usize + 1;
+    let set = s as usize;
+    if set < least {
+        return least;
+    }
+    let surplus = set - least;
+    least + (surplus + 1) / 2
 }
 
 // The value of a member of the set is a field word.
@@ -314,7 +318,7 @@ fn judge(
         return refuse(coefficients, 16);
     }
     polynomial::interpolate(&points[..t + 1], coefficients);
-    let least = need(t, members::card(set) as usize);
+    let least = need(t as u16, members::card(set));
     if agreeing(t, coefficients, values, set) < least {
         return refuse(coefficients, 16);
     }
@@ -349,7 +353,7 @@ fn guess(
         return false;
     }
     polynomial::interpolate(&points[..t + 1], coefficients);
-    let enough = need(t, members::card(set) as usize);
+    let enough = need(t as u16, members::card(set));
     if agreeing(t, coefficients, values, set) < enough {
         return false;
     }

@@ -1,23 +1,13 @@
--- Laws of the loops that fill a buffer.
+-- Laws of the loop that stores a list in a buffer.
 -- Assumes nothing.
 use mathlib.Core.Path.{_≡_, sym, ap, ap₂, _∙_}
-use mathlib.Core.List.{List, _++_, append-nil}
+use mathlib.Core.List.{List}
 use Prim.Native.Nat.{ℕ, suc, _+_, _≤_, _<_}
 use native.Mathlib.Nat.{add-zero}
 use native.Mathlib.Numerals.{add-one}
 use native.Mathlib.Omega.{arith}
-use borrow.Author.Fill.{fill-more}
-use lib.ListN.{length, getD, set, drop, replicate, drop-of-length-le}
+use lib.ListN.{length, getD, set, drop, drop-of-length-le}
 use lib.Seq.{sets, drop-cons}
-
--- the word so far
-pub fill-step : (i v : ℕ) (d l : List ℕ) → i < length d → l ≡ replicate i v ++ drop i d → set l i v ≡ replicate (i + 1) v ++ drop (i + 1) d
-fill-step i v d l h e = ap (λ (x : List ℕ). set x i v) e ∙ fill-more i v d h
-
-pub fill-all : (i v : ℕ) (d l : List ℕ) → i ≤ length d → length d ≤ i → l ≡ replicate i v ++ drop i d → l ≡ replicate (length d) v
-fill-all i v d l low high e =
-    let n : i ≡ length d = omega arith in
-    e ∙ ap (λ (x : List ℕ). replicate i v ++ x) (drop-of-length-le d high) ∙ append-nil (replicate i v) ∙ ap (λ (k : ℕ). replicate k v) n
 
 -- stores so far, and those left
 pub store-none : (words share : List ℕ) (at : ℕ) → sets words (at + 0) share ≡ sets words at share

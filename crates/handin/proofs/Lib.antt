@@ -4,7 +4,6 @@ pub mod Bytes
 pub mod Examples
 pub mod FieldLaws
 pub mod Lines
-pub mod Masks
 pub mod Numerals
 pub mod Placing
 pub mod Reaching

@@ -6,20 +6,15 @@ use mathlib.Core.List.{List, []}
 use Prim.Native.Nat.{ℕ, _+_, _*_, _-_, _≤_, _<_}
 use native.Mathlib.Numerals.{add-one}
 use native.Mathlib.Omega.{arith}
-use borrow.Author.Tests.{eq-eqb, ne-eqb, le-leb, lt-leb, lt-ltb, le-ltb, leb-true}
+use borrow.Author.Tests.{eq-eqb, ne-eqb, le-leb, lt-leb, lt-ltb, le-ltb}
 use lib.Dec.{leb, ltb}
 use lib.ListN.{length, getD, drop, drop-of-length-le}
 use lib.Seq.{drop-cons}
 use Rattle.lists.specs.Tabulate.{each}
-use Rattle.lists.proofs.Bools.{and-left}
 use Rattle.handin.specs.Lines.{isDigit, decimal, leadsWithZero, isNumeral}
 use Rattle.handin.specs.Steps.{digitsFrom, numeralOf}
 use Rattle.handin.specs.declared.Parsed.the-variants.{Number, Nothing}
 use Rattle.handin.proofs.Lines.{decimal-ge}
-
--- a digit is at least 48
-pub digit-low : (b : ℕ) → isDigit b ≡ true → 48 ≤ b
-digit-low b h = leb-true 48 b (and-left (leb 48 b) (leb b 57) h)
 
 digits-end : (v : ℕ) → v ≤ 65535 → Number v ≡ digitsFrom v []
 unfolding digitsFrom each decimal

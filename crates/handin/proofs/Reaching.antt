@@ -2,8 +2,8 @@
 -- Assumes nothing.
 use mathlib.Core.Path.{_≡_, refl, sym, ap, ap₂, _∙_, subst}
 use mathlib.Core.List.{List, [], _∷_}
-use Prim.Native.Nat.{ℕ, _+_, _*_, _^_, _≤_, _<_}
-use native.Mathlib.Nat.{not-suc-le-zero, pow-le-pow-right}
+use Prim.Native.Nat.{ℕ, _+_, _*_, _≤_, _<_}
+use native.Mathlib.Nat.{not-suc-le-zero}
 use native.Mathlib.Numerals.{add-one}
 use native.Mathlib.Omega.{arith}
 use lib.ListN.{length, take, drop, replicate, drop-of-length-le}
@@ -11,8 +11,9 @@ use lib.Seq.{drop-cons, take-all}
 use Rattle.lists.specs.Checks.{refusal}
 use Rattle.members.specs.Members.{size}
 use Rattle.shares.specs.Layout.{width}
+use Rattle.shares.proofs.Places.{all-fit}
 use Rattle.handin.specs.Lines.{parts}
-use Rattle.handin.specs.Reader.{Share, capacity, shareOf, isSome, Taken, shares, refused, takeLine, takeLines, unread, readFrom}
+use Rattle.handin.specs.Reader.{Share, capacity, Taken, shares, refused, takeLine, takeLines, unread, readFrom}
 use Rattle.handin.specs.Scanning.{after, FirstEnds}
 use Rattle.handin.specs.Progress.{InRange, Holds, Comes}
 use Rattle.handin.specs.Answers.{answerOf, cleared}
@@ -20,9 +21,7 @@ use Rattle.handin.specs.declared.Line.{Line}
 use Rattle.handin.specs.declared.Line.the-variants as L
 use Rattle.handin.specs.declared.Outcome.the-variants as O
 use Rattle.handin.proofs.Lines.{parts-some, lines-next, lines-refused, lines-unended, text-end}
-use Rattle.handin.proofs.Masks.{setOf-lt}
 use Rattle.handin.proofs.Placing.{holds-none}
-use Rattle.handin.proofs.Taking.{place-end}
 
 -- all lines come to what the lines left do, after the shares taken
 pub record Reached (t d : ℕ) (all : Taken) (rest : List ℕ) (present : ℕ) (words : List ℕ) : Type 0 where
@@ -30,19 +29,10 @@ pub record Reached (t d : ℕ) (all : Taken) (rest : List ℕ) (present : ℕ) (
   pub so : all ≡ takeLines t d taken (parts 10 rest)
   pub holds : Holds t d taken present words
 
-size-high : (t d : ℕ) → InRange t d → size t ≤ 31
-unfolding size
-size-high t d r = omega (arith, r .t-high)
-
-fits : (t d : ℕ) → InRange t d → size t * width t d ≤ 4867
-unfolding size width
-fits t d r =
-    let h : 2 * t < 2 * t + 1 = omega arith in
-    omega (arith, place-end t d (2 * t) r h)
-
 pub reached-start : (t d : ℕ) (text words : List ℕ) → InRange t d → length words ≡ capacity → words ≡ replicate (length words) 0 → Reached t d (takeLines t d [] (parts 10 text)) text 0 words
+unfolding size width
 reached-start t d text words r len zeros =
-    let h : size t * width t d ≤ length words = omega (arith, fits t d r, len) in
+    let h : size t * width t d ≤ length words = omega (arith, all-fit t d (r .t-high) (r .d-high), len) in
     record { taken = []; so = refl; holds = subst (Holds t d [] 0) (sym zeros) (holds-none t d (length words) len h) }
 
 -- a text that ends at e, or has a byte 10 there
@@ -59,13 +49,6 @@ unended t d taken [] h = absurd (not-suc-le-zero h)
 unended t d taken (b ∷ bs) h = lines-unended t d taken b bs
 
 module _ (t d : ℕ) (all : Taken) (rest : List ℕ) (present : ℕ) (words : List ℕ) (s : Reached t d all rest present words) where
-  pub reached-mask : InRange t d → present < 2147483648
-  reached-mask r =
-      let two : 0 < 2 = omega arith in
-      let p : 2 ^ size t ≤ 2 ^ 31 = pow-le-pow-right two (size-high t d r) in
-      let q : 2 ^ 31 ≡ 2147483648 = refl in
-      omega (arith, p, q, s .holds .members, setOf-lt (size t) (λ i. isSome (shareOf (s .taken) i)))
-
   pub reached-end : length rest ≤ 0 → all ≡ shares (s .taken)
   reached-end h =
       let e : rest ≡ [] = drop-of-length-le rest h in

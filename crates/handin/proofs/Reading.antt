@@ -1,20 +1,19 @@
 -- Laws of the whole text: its lengths, its first line, and the lines after it.
 -- Assumes nothing.
 use mathlib.Core.Path.{_≡_, refl, sym, ap, ap₂, _∙_}
-use mathlib.Core.Logic.{_⊎_, inl, inr}
-use mathlib.Core.Bool.{and-false}
+use mathlib.Core.Bool.{true, false}
 use mathlib.Core.Option.{Option, none, some}
 use mathlib.Core.List.{List, [], _∷_}
 use Prim.Native.Nat.{ℕ, _+_, _≤_, _<_}
 use native.Mathlib.Omega.{arith}
 use borrow.Author.Tests.{le-leb, lt-leb, eq-eqb, ne-eqb}
-use lib.Dec.{leb}
 use lib.ListN.{length, getD, take, drop, replicate, drop-of-length-le}
 use Rattle.lists.specs.Checks.{refusal}
+use Rattle.members.specs.Members.{isThreshold}
+use Rattle.shares.specs.Layout.{isLength}
 use Rattle.handin.specs.Lines.{parts, lineOf}
 use Rattle.handin.specs.Reader.{takeLines, unread, readFrom, readNumbers, readLines, read}
 use Rattle.handin.specs.Scanning.{after, FirstEnds}
-use Rattle.handin.specs.Progress.{InRange}
 use Rattle.handin.specs.Answers.{answerOf, cleared}
 use Rattle.handin.specs.declared.Outcome.{Outcome}
 use Rattle.handin.specs.declared.Outcome.the-variants.{Accepted, Refused}
@@ -32,19 +31,18 @@ cleared-so len k ws e = refused-so k len (replicate (length ws) 0) (ap (λ (n : 
 
 -- the numbers of a D line: t and d are in range or not
 module _ (len : ℕ) (ns ws : List ℕ) (lines : List (List ℕ)) (e : length ws ≡ len) where
-  pub first-t : (getD ns 0 0 < 1) ⊎ (15 < getD ns 0 0) → answerOf (Refused 22) (cleared (Refused 22) ws) ≡ readNumbers len (some ns) lines
+  pub first-t : isThreshold (getD ns 0 0) ≡ false → answerOf (Refused 22) (cleared (Refused 22) ws) ≡ readNumbers len (some ns) lines
   unfolding readNumbers
-  first-t (inl h) = rw (lt-leb 1 (getD ns 0 0) h) (cleared-so len 22 ws e)
-  first-t (inr h) = rw (lt-leb (getD ns 0 0) 15 h, and-false (leb 1 (getD ns 0 0))) (cleared-so len 22 ws e)
+  first-t h = rw h (cleared-so len 22 ws e)
 
-  pub first-d : 1 ≤ getD ns 0 0 → getD ns 0 0 ≤ 15 → (getD ns 1 0 < 1) ⊎ (64 < getD ns 1 0) → answerOf (Refused 22) (cleared (Refused 22) ws) ≡ readNumbers len (some ns) lines
+  pub first-d : isThreshold (getD ns 0 0) ≡ true → isLength (getD ns 1 0) ≡ false → answerOf (Refused 22) (cleared (Refused 22) ws) ≡ readNumbers len (some ns) lines
   unfolding readNumbers
-  first-d low high (inl h) = rw (le-leb 1 (getD ns 0 0) low, le-leb (getD ns 0 0) 15 high, lt-leb 1 (getD ns 1 0) h) (cleared-so len 22 ws e)
-  first-d low high (inr h) = rw (le-leb 1 (getD ns 0 0) low, le-leb (getD ns 0 0) 15 high, lt-leb (getD ns 1 0) 64 h, and-false (leb 1 (getD ns 1 0))) (cleared-so len 22 ws e)
+  first-d p h = rw (p, h) (cleared-so len 22 ws e)
 
-pub first-in : (len : ℕ) (ns : List ℕ) (lines : List (List ℕ)) → InRange (getD ns 0 0) (getD ns 1 0) → readFrom len (getD ns 0 0) (getD ns 1 0) (getD ns 2 0) (takeLines (getD ns 0 0) (getD ns 1 0) [] lines) ≡ readNumbers len (some ns) lines
+pub first-in : (len : ℕ) (ns : List ℕ) (lines : List (List ℕ)) → isThreshold (getD ns 0 0) ≡ true → isLength (getD ns 1 0) ≡ true
+    → readFrom len (getD ns 0 0) (getD ns 1 0) (getD ns 2 0) (takeLines (getD ns 0 0) (getD ns 1 0) [] lines) ≡ readNumbers len (some ns) lines
 unfolding readNumbers
-first-in len ns lines r = rw (le-leb 1 (getD ns 0 0) (r .t-low), le-leb (getD ns 0 0) 15 (r .t-high), le-leb 1 (getD ns 1 0) (r .d-low), le-leb (getD ns 1 0) 64 (r .d-high))
+first-in len ns lines p q = rw (p, q)
 
 -- the first line, which ends at e
 module _ (len : ℕ) (text : List ℕ) (e : ℕ) (ends : FirstEnds 10 text e) where

@@ -7,18 +7,18 @@ use mathlib.Core.Option.{Option, none, some}
 use mathlib.Core.List.{List, [], _∷_}
 use Prim.Native.Nat.{ℕ, _+_, _-_, _≤_, zero-le}
 use native.Mathlib.Omega.{arith}
-use borrow.Author.Tests.{leb-true}
 use lib.Dec.{leb, eqb}
 use lib.ListN.{length, getD, drop}
 use Rattle.lists.specs.Checks.{Check, _unless_, checked, within}
 use Rattle.lists.specs.Tabulate.{each}
-use Rattle.lists.proofs.Bools.{test, and-left, and-right}
+use Rattle.lists.proofs.Bools.{test}
 use Rattle.lists.proofs.Checks.{check-fails, check-passes, all-passed, number-fits}
 use Rattle.members.specs.Members.{size, isThreshold}
 use Rattle.shares.specs.Layout.{width, isLength}
 use Rattle.handin.specs.Lines.{parts, lineOf}
 use Rattle.handin.specs.Reader.{HandIn, Share, shareOf, isSome, Taken, shares, refused, capacity, takeShare, takeNumbers, takeLine, takeLines, unread, readFrom, readNumbers, readLines, read}
 use Rattle.handin.specs.Progress.{InRange}
+use Rattle.handin.proofs.Taking.{in-range}
 
 -- a refusal's number is not 0, and fits a word
 record Told (k : ℕ) : Type 0 where
@@ -83,13 +83,7 @@ module _ (len : ℕ) where
               | inr f ↦ rw (check-fails (unread len) 22 (isLength d) [] answer f) (sound-unread 22 22-told)
               | inl f ↦
                   rw (check-passes (unread len) 22 (isLength d) [] answer f)
-                  (h
-                  (record {
-                    t-low = leb-true 1 t (and-left (leb 1 t) (leb t 15) e);
-                    t-high = leb-true t 15 (and-right (leb 1 t) (leb t 15) e);
-                    d-low = leb-true 1 d (and-left (leb 1 d) (leb d 64) f);
-                    d-high = leb-true d 64 (and-right (leb 1 d) (leb d 64) f);
-                  }))
+                  (h (in-range t d e f))
             ])
       ]
 

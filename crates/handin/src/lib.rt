@@ -3,7 +3,7 @@ ghost use mathlib.Core.Path.{_≡_};
 ghost use mathlib.Core.Bool.{cond};
 ghost use mathlib.Core.Option.{some, none};
 ghost use mathlib.Core.List.{List, []};
-ghost use Prim.Native.Nat.{_+_, _^_, _≤_, _<_};
+ghost use Prim.Native.Nat.{_+_, _≤_};
 ghost use lib.Dec.{eqb};
 ghost use lib.ListN.{length, replicate};
 ghost use lib.Seq.{sets};
@@ -177,14 +177,6 @@ fn numbers(line: &[u8], letter: u8, out: &mut [u16]) -> bool
     fields(&line[1..], out)
 }
 
-// The value of a member's bit.
-fn power(i: usize) -> u32
-    requires { ⌜ i < 31 ⌝ }
-    ensures { λ r. ⌜ r ≡ 2 ^ i ⌝ }
-{
-    1u32 << i
-}
-
 fn store(share: &[u16], words: &mut [u16], at: usize)
     requires { ⌜ at + length (now share) ≤ length (now words) ⌝ }
     ensures { λ r. ⌜ now (words .exit) ≡ sets (now (words .entry)) at (now (share .entry)) ⌝ }
@@ -192,16 +184,6 @@ fn store(share: &[u16], words: &mut [u16], at: usize)
     let mut i = 0;
     while i < share.len() {
         words[at + i] = share[i];
-        i += 1;
-    }
-}
-
-fn fill(words: &mut [u16], word: u16)
-    ensures { λ r. ⌜ now (words .exit) ≡ replicate (length (now (words .entry))) word ⌝ }
-{
-    let mut i = 0;
-    while i < words.len() {
-        words[i] = word;
         i += 1;
     }
 }
@@ -216,25 +198,20 @@ enum Line {
 fn take_share(t: usize, d: usize, present: u32, numbers: &[u16], words: &mut [u16]) -> Line
     requires { ⌜ InRange t d ⌝ }
     requires { ⌜ (length (now numbers) ≡ 1 + width t d) × (length (now words) ≡ capacity) ⌝ }
-    requires { ⌜ present < 2147483648 ⌝ }
     ensures { λ r. ⌜ ((taken : List Share) → Holds t d taken present (now (words .entry)) → Comes t d (takeNumbers t taken (some (now (numbers .entry)))) r (now (words .exit))) ⌝ }
 {
     let n = 2 * t + 1;
     let member = numbers[0] as usize;
-    if member < 1 {
-        return Line::Refused(24);
-    }
-    if n < member {
+    if !lists::within(1, n, member) {
         return Line::Refused(24);
     }
     let i = member - 1;
-    let value = power(i);
-    if present / value % 2 == 1 {
+    if members::has(present, i) {
         return Line::Refused(24);
     }
     let at = i * (d + 3 * n);
     store(&numbers[1..], words, at);
-    Line::Accepted(present + value)
+    Line::Accepted(members::with(present, i))
 }
 
 // One line: its shape whole, and then its member.
@@ -248,7 +225,6 @@ fn take_line(
 ) -> Line
     requires { ⌜ InRange t d ⌝ }
     requires { ⌜ (length (now scratch) ≡ 1 + width t d) × (length (now words) ≡ capacity) ⌝ }
-    requires { ⌜ present < 2147483648 ⌝ }
     ensures { λ r. ⌜ ((taken : List Share) → Holds t d taken present (now (words .entry)) → Comes t d (takeLine t d taken (now (line .entry))) r (now (words .exit))) ⌝ }
 {
     if !numbers(line, 80, scratch) {
@@ -311,16 +287,10 @@ fn read_numbers(text: &[u8], first: &[u16], scratch: &mut [u16], words: &mut [u1
 {
     let t = first[0] as usize;
     let d = first[1] as usize;
-    if t < 1 {
+    if !members::threshold(t) {
         return Outcome::Refused(22);
     }
-    if 15 < t {
-        return Outcome::Refused(22);
-    }
-    if d < 1 {
-        return Outcome::Refused(22);
-    }
-    if 64 < d {
+    if !lists::within(1, 64, d) {
         return Outcome::Refused(22);
     }
     let k = 1 + (d + 3 * (2 * t + 1));
@@ -356,7 +326,7 @@ fn read_text(text: &[u8], words: &mut [u16]) -> Outcome
 fn refuse(buffer: &mut [u16], k: u16) -> Outcome
     ensures { λ r. ⌜ answerOf r (now (buffer .exit)) ≡ unread (length (now (buffer .entry))) (refusal k) ⌝ }
 {
-    fill(buffer, 0);
+    lists::fill(buffer, 0);
     Outcome::Refused(k)
 }
 
@@ -370,7 +340,7 @@ pub fn read(text: &[u8], words: &mut [u16]) -> Outcome
     if 40000 < text.len() {
         return refuse(words, 21);
     }
-    fill(words, 0);
+    lists::fill(words, 0);
     match read_text(text, words) {
         Outcome::Accepted {
             t,

@@ -2,8 +2,8 @@
 -- Assumes nothing.
 use mathlib.Core.Path.{_≡_, refl, sym, _∙_}
 use mathlib.Core.Logic.{_⊎_, inl, inr}
-use mathlib.Core.Bool.{Bool, true, false, _&&_, _||_, not, cond, true≢false, false≢true}
-use Prim.Native.Nat.{ℕ}
+use mathlib.Core.Bool.{Bool, true, false, _&&_, _||_, not, true≢false, false≢true}
+use borrow.Author.Tests.{not-true, not-false}
 
 pub and-intro : {a b : Bool} → a ≡ true → b ≡ true → a && b ≡ true
 and-intro p q = rw (p, q)
@@ -28,6 +28,13 @@ clash p q = true≢false (sym p ∙ q)
 pub false-of : (b : Bool) → (b ≡ true → ⊥) → b ≡ false
 false-of true h = absurd (h refl)
 false-of false h = refl
+
+-- a test that the code negates
+pub fails : (r b : Bool) → r ≡ b → not r ≡ true → b ≡ false
+fails r b e h = sym e ∙ not-true r h
+
+pub passes : (r b : Bool) → r ≡ b → not r ≡ false → b ≡ true
+passes r b e h = sym e ∙ not-false r h
 
 -- two tests of which each passes where the other does are equal
 pub same-test : (a b : Bool) → (a ≡ true → b ≡ true) → (b ≡ true → a ≡ true) → a ≡ b

@@ -6,11 +6,11 @@ use mathlib.Core.Bool.{Bool, true, false}
 use mathlib.Core.List.{List, [], _∷_}
 use Prim.Native.Nat.{ℕ, zero, suc, _≤_, _<_}
 use native.Mathlib.Omega.{arith}
-use borrow.Author.Tests.{ltb-true, leb-true}
+use borrow.Author.Tests.{ltb-true, leb-true, le-leb}
 use lib.Dec.{leb, ltb}
-use Rattle.lists.specs.Checks.{Check, _unless_, checked, refusal}
+use Rattle.lists.specs.Checks.{Check, _unless_, checked, within, refusal}
 use Rattle.lists.specs.Tabulate.{each}
-use Rattle.lists.proofs.Bools.{test, and-left, and-right}
+use Rattle.lists.proofs.Bools.{test, and-intro, and-left, and-right}
 
 module _ {A : Type 0} (refuse : ℕ → A) (number : ℕ) (passes : Bool) (later : List Check) (answer : A) where
   -- the first check fails
@@ -58,6 +58,17 @@ module _ {A : Type 0} (refuse : ℕ → A) (number : A → ℕ) (tells : (k : �
           → number (elim b [ true ↦ checked refuse cs answer | false ↦ refuse (c .number) ]) ≤ 65535
       at true high rest = rest
       at false high rest = omega (arith, tells (c .number))
+
+-- ---- low ≤ x ≤ high
+
+pub within-intro : (low high x : ℕ) → low ≤ x → x ≤ high → within low high x ≡ true
+within-intro low high x l h = and-intro (le-leb low x l) (le-leb x high h)
+
+pub within-low : (low high x : ℕ) → within low high x ≡ true → low ≤ x
+within-low low high x h = leb-true low x (and-left (leb low x) (leb x high) h)
+
+pub within-high : (low high x : ℕ) → within low high x ≡ true → x ≤ high
+within-high low high x h = leb-true x high (and-right (leb low x) (leb x high) h)
 
 -- a refusal's number that fits a word is the one that was given
 pub refusal-is : (k : ℕ) → refusal k ≤ 65535 → refusal k ≡ k

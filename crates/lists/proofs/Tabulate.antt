@@ -2,15 +2,14 @@
 -- Assumes nothing.
 use mathlib.Core.Path.{_≡_, refl, sym, ap, ap₂, _∙_}
 use mathlib.Core.Logic.{inl, inr}
-use mathlib.Core.Bool.{Bool, true, false, _&&_, true≢false}
-use mathlib.Core.List.{List, [], _∷_, _++_, map}
-use Prim.Native.Nat.{ℕ, zero, suc, _+_, _*_, _≤_, _<_, zero-le, suc-le-suc}
+use mathlib.Core.Bool.{Bool, true, false, _&&_, and-true, and-assoc, true≢false}
+use mathlib.Core.List.{List, [], _∷_, map}
+use Prim.Native.Nat.{ℕ, zero, suc, _+_, _≤_, _<_, zero-le, suc-le-suc}
 use native.Mathlib.Nat.{not-suc-le-zero, le-of-suc-le-suc}
 use native.Mathlib.Numerals.{add-one}
-use native.Mathlib.Omega.{arith}
-use lib.ListN.{length, getD, take, drop, length-append, drop-of-length-le}
+use lib.ListN.{length, getD, drop, drop-of-length-le}
 use lib.Seq.{drop-cons}
-use Rattle.lists.specs.Tabulate.{tab, all, each, concat}
+use Rattle.lists.specs.Tabulate.{tab, all, each}
 use Rattle.lists.proofs.Bools.{and-intro, and-left, and-right, test}
 
 module _ {A : Type 0} where
@@ -93,13 +92,5 @@ each-tab p (suc n) f = ap (λ (b : Bool). p (f 0) && b) (each-tab p n (λ i. f (
 -- one more place at the end
 pub all-last : (n : ℕ) (p : ℕ → Bool) → all (suc n) p ≡ all n p && p n
 unfolding all
-all-last zero p = and-true-right (p 0)
-  where
-    and-true-right : (b : Bool) → b && true ≡ b
-    and-true-right true = refl
-    and-true-right false = refl
-all-last (suc n) p = ap (λ (b : Bool). p 0 && b) (all-last n (λ i. p (suc i))) ∙ assoc (p 0) (all n (λ i. p (suc i))) (p (suc n))
-  where
-    assoc : (a b c : Bool) → a && (b && c) ≡ a && b && c
-    assoc true b c = refl
-    assoc false b c = refl
+all-last zero p = and-true (p 0)
+all-last (suc n) p = ap (λ (b : Bool). p 0 && b) (all-last n (λ i. p (suc i))) ∙ sym (and-assoc (p 0) (all n (λ i. p (suc i))) (p (suc n)))

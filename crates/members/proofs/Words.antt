@@ -2,18 +2,19 @@
 -- Assumes nothing.
 use mathlib.Core.Path.{_≡_, refl, sym, ap, _∙_, subst}
 use mathlib.Core.Logic.{_⊎_, inl, inr}
-use mathlib.Core.Bool.{Bool, true, false, _&&_, _||_, not, cond, true≢false, false≢true}
+use mathlib.Core.Bool.{Bool, true, false, _&&_, _||_, not, cond, and-true, true≢false, false≢true}
 use Prim.Native.Nat.{ℕ, zero, suc, _+_, _*_, _/_, _^_, _≤_, _<_, zero-le, suc-le-suc}
-use native.Mathlib.Nat.{le-refl, le-trans, le-suc, le-of-eq, le-of-suc-le-suc, eq-or-lt-of-le, lt-of-lt-of-le, lt-irrefl}
+use native.Mathlib.Nat.{le-refl, le-suc, le-of-eq, le-of-suc-le-suc, eq-or-lt-of-le, lt-of-lt-of-le, lt-irrefl}
 use native.Mathlib.Numerals.{add-one}
 use native.Mathlib.Omega.{arith}
 use lib.Dec.{eqb, ltb, leb, leb·suc-suc}
 use lib.Bits.{bitAnd, bitOr, bitXor, and-mask, or-lt, xor-lt}
 use lib.Count.{ones}
 use lib.Pow.{pow-mono, pow-lt}
-use borrow.Author.Tests.{leb-true, eqb-true, eqb-false, ne-eqb, lt-ltb, ltb-true, ltb-false}
+use borrow.Author.Tests.{eqb-true, eqb-false, ne-eqb, lt-ltb, le-ltb, ltb-true, ltb-false}
 use Rattle.lists.specs.Tabulate.{count}
-use Rattle.lists.proofs.Bools.{and-right, test, or-no, or-yes, and-no, and-not}
+use Rattle.lists.proofs.Bools.{test, or-no, or-yes, and-no, and-not}
+use Rattle.lists.proofs.Checks.{within-high}
 use Rattle.lists.proofs.Count.{count-more}
 use Rattle.members.specs.Members.{isThreshold, size, has, setOf, isSet, adding, striking, firstOf, common}
 use Rattle.members.proofs.Masks.{has-setOf, setOf-lt, setOf-has, setOf-ext, same-members, has-above, has-or, has-xor, has-power, has-shift, ones-and, suc-everyone}
@@ -95,31 +96,23 @@ firstOf-beyond n l =
 pub firstOf-isSet : (n m : ℕ) → n ≤ 32 → leb m (firstOf n) ≡ isSet n m
 firstOf-isSet n m l = sym (leb·suc-suc m (firstOf n)) ∙ ap (leb (suc m)) (firstOf-power n l)
 
-past : {n : ℕ} (i : ℕ) → eqb i n ≡ false → n ≤ i → n < i
-past {n} i e l =
-    elim (eq-or-lt-of-le l) [
-      | inl s ↦ absurd (eqb-false i n e (sym s))
-      | inr k ↦ k
-    ]
-
--- a set of the first of n members, with the next one
-pub setOf-with : (n : ℕ) (p : ℕ → Bool) → n < 32 → p n ≡ true → setOf (suc n) p ≡ adding (setOf n p) n
+-- a set of n members with one of them more
+pub setOf-more : (n i : ℕ) (p q : ℕ → Bool) → n ≤ 32 → i < n → q i ≡ true → ((j : ℕ) → j < n → (j ≡ i → ⊥) → q j ≡ p j) → adding (setOf n p) i ≡ setOf n q
 unfolding adding
-setOf-with n p l y =
-    same-members 32 (setOf (suc n) p) (setOf 32 (λ j. has (setOf n p) j || eqb j n)) (lt-of-lt-of-le (setOf-lt (suc n) p) (pow-mono l))
-    (setOf-lt 32 (λ j. has (setOf n p) j || eqb j n))
-    (λ i k. sides i (test (eqb i n)) (test (ltb i n)) ∙ sym (has-setOf 32 (λ j. has (setOf n p) j || eqb j n) i k))
+setOf-more n i p q few l on same =
+    setOf-ext 32 (λ j. has (setOf n p) j || eqb j i) (has (setOf n q)) (λ j k. sides j (test (eqb j i)) (test (ltb j n)))
+    ∙ setOf-has 32 (setOf n q) (lt-of-lt-of-le (setOf-lt n q) (pow-mono few))
   where
-    sides : (i : ℕ) → (eqb i n ≡ true) ⊎ (eqb i n ≡ false) → (ltb i n ≡ true) ⊎ (ltb i n ≡ false) → has (setOf (suc n) p) i ≡ has (setOf n p) i || eqb i n
-    sides i (inl e) c =
-        ap (has (setOf (suc n) p)) (eqb-true i n e) ∙ has-setOf (suc n) p n (le-refl (suc n)) ∙ y ∙ sym (or-yes (has (setOf n p) i) (eqb i n) e)
-    sides i (inr e) (inl b) =
-        has-setOf (suc n) p i (le-trans (ltb-true i n b) (le-suc n)) ∙ sym (has-setOf n p i (ltb-true i n b)) ∙ sym (or-no (has (setOf n p) i) (eqb i n) e)
-    sides i (inr e) (inr b) =
-        has-above (suc n) (setOf (suc n) p) i (setOf-lt (suc n) p) (past i e (ltb-false i n b))
-        ∙ sym (has-above n (setOf n p) i (setOf-lt n p) (ltb-false i n b)) ∙ sym (or-no (has (setOf n p) i) (eqb i n) e)
+    sides : (j : ℕ) → (eqb j i ≡ true) ⊎ (eqb j i ≡ false) → (ltb j n ≡ true) ⊎ (ltb j n ≡ false) → has (setOf n p) j || eqb j i ≡ has (setOf n q) j
+    sides j (inl e) c = or-yes (has (setOf n p) j) (eqb j i) e ∙ sym (ap (has (setOf n q)) (eqb-true j i e) ∙ has-setOf n q i l ∙ on)
+    sides j (inr e) (inl b) =
+        or-no (has (setOf n p) j) (eqb j i) e ∙ has-setOf n p j (ltb-true j n b) ∙ sym (same j (ltb-true j n b) (eqb-false j i e))
+        ∙ sym (has-setOf n q j (ltb-true j n b))
+    sides j (inr e) (inr b) =
+        or-no (has (setOf n p) j) (eqb j i) e ∙ has-above n (setOf n p) j (setOf-lt n p) (ltb-false j n b)
+        ∙ sym (has-above n (setOf n q) j (setOf-lt n q) (ltb-false j n b))
 
--- or without it
+-- a set of the first of n members, without the next one
 pub setOf-without : (n : ℕ) (p : ℕ → Bool) → p n ≡ false → setOf (suc n) p ≡ setOf n p
 setOf-without n p y =
     same-members (suc n) (setOf (suc n) p) (setOf n p) (setOf-lt (suc n) p) (lt-of-lt-of-le (setOf-lt n p) (pow-mono (le-suc n)))
@@ -128,6 +121,22 @@ setOf-without n p y =
     sides : (i : ℕ) → (i ≡ n) ⊎ (i < n) → p i ≡ has (setOf n p) i
     sides i (inl e) = ap p e ∙ y ∙ sym (has-above n (setOf n p) i (setOf-lt n p) (le-of-eq (sym e)))
     sides i (inr l) = sym (has-setOf n p i l)
+
+-- or with it
+pub setOf-with : (n : ℕ) (p : ℕ → Bool) → n < 32 → p n ≡ true → setOf (suc n) p ≡ adding (setOf n p) n
+setOf-with n p l y =
+    sym (setOf-more (suc n) n before p l (le-refl (suc n)) y (λ j k ne. sym (first j (below j ne (eq-or-lt-of-le (le-of-suc-le-suc k))))))
+    ∙ ap (λ (m : ℕ). adding m n) (setOf-without n before (and-no (p n) (ltb n n) (le-ltb n n (le-refl n))) ∙ setOf-ext n before p first)
+  where
+    before : ℕ → Bool
+    before j = p j && ltb j n
+
+    first : (j : ℕ) → j < n → before j ≡ p j
+    first j k = ap (λ (b : Bool). p j && b) (lt-ltb j n k) ∙ and-true (p j)
+
+    below : (j : ℕ) → (j ≡ n → ⊥) → (j ≡ n) ⊎ (j < n) → j < n
+    below j ne (inl e) = absurd (ne e)
+    below j ne (inr k) = k
 
 -- the members that a set of n members has in common with a mask
 pub common-count : (n a b : ℕ) → n ≤ 32 → b < 2 ^ n → common a b ≡ count n (λ j. has a j && has b j)
@@ -138,9 +147,12 @@ common-count n a b l h =
 -- ---- a station's members
 
 -- at most 31
-pub size-le : (t : ℕ) → isThreshold t ≡ true → size t ≤ 31
+pub size-31 : (t : ℕ) → t ≤ 15 → size t ≤ 31
 unfolding size
-size-le t h = omega (arith, leb-true t 15 (and-right (leb 1 t) (leb t 15) h))
+size-31 t h = omega arith
+
+pub size-le : (t : ℕ) → isThreshold t ≡ true → size t ≤ 31
+size-le t h = size-31 t (within-high 1 15 t h)
 
 pub size-of : (t : ℕ) → 2 * t + 1 ≡ size t
 unfolding size

@@ -1,6 +1,6 @@
 -- Laws of evaluation: modulo p, of one more coefficient, of (X − x) times a polynomial, of linear combinations.
 -- Assumes nothing.
-use mathlib.Core.Path.{_≡_, refl, sym, ap, ap₂, _∙_}
+use mathlib.Core.Path.{_≡_, refl, sym, ap, _∙_}
 use mathlib.Core.List.{List, [], _∷_}
 use Prim.Native.Nat.{ℕ, zero, suc, _+_, _-_, _*_, _%_, _≤_, _<_, zero-le, suc-le-suc}
 use native.Mathlib.Nat.{mul-zero, le-of-suc-le-suc, not-suc-le-zero}
@@ -8,7 +8,7 @@ use native.Mathlib.Omega.{arith}
 use lib.ListN.{length}
 use Rattle.lists.proofs.Every.{Every, none, more}
 use Rattle.field.specs.Field.{prime, sum, product}
-use Rattle.field.proofs.Congruence.{_≈_, same-refl, same-sym, same-trans, same-eq, eq-same, reduced, mult, times, _⊕_, _⊗_, lc}
+use Rattle.field.proofs.Congruence.{_≈_, same-refl, same-sym, same-trans, same-eq, eq-same, reduced, times, _⊕_, _⊗_, lc}
 use Rattle.field.proofs.Operations.{mod-word, sum-same, sum-word, product-same}
 use Rattle.polynomial.specs.Polynomial.{eval, value, linear}
 
@@ -74,7 +74,7 @@ linear-words x c (a ∷ f) = more (mod-word (c + (prime - x % prime) * a)) (line
 minus-point : (x : ℕ) → prime - x % prime ≈ 65520 * x
 minus-point x = omega arith
 
-linear-step : (x c a z e g : ℕ) → e ≈ a + (z + 65520 * x) * g → c + 65520 * x * a + z * e ≈ c + (z + 65520 * x) * (a + z * g)
+pub linear-step : (x c a z e g : ℕ) → e ≈ a + (z + 65520 * x) * g → c + 65520 * x * a + z * e ≈ c + (z + 65520 * x) * (a + z * g)
 linear-step x c a z e g h = lc (times z h) (same-eq (omega arith))
 
 pub eval-linear : (x c : ℕ) (f : List ℕ) (z : ℕ) → eval (linear x c f) z ≈ c + (z + 65520 * x) * eval f z

@@ -1,21 +1,22 @@
 -- Opening word by word comes to the polynomials of all words: the turn of the loop, for any distinct points.
 -- Assumes nothing.
 use mathlib.Core.Path.{_≡_, refl, sym, ap, ap₂, _∙_, subst}
-use mathlib.Core.Bool.{Bool, true, false, _&&_, cond}
+use mathlib.Core.Bool.{Bool, _&&_, cond, and-true, and-assoc}
 use mathlib.Core.Logic.{inl, inr}
 use mathlib.Core.Option.{Option, none, some, Option·none-ne-some, Option·some-injective}
 use mathlib.Core.List.{List, [], _∷_, _++_}
-use Prim.Native.Nat.{ℕ, zero, suc, _+_, _≤_, _<_, _^_, zero-le, suc-le-suc}
+use Prim.Native.Nat.{ℕ, suc, _+_, _≤_, _<_, _^_, zero-le}
 use native.Mathlib.Nat.{le-trans, le-of-eq, not-suc-le-zero, suc-ne-zero, suc-inj, eq-or-lt-of-le, le-of-suc-le-suc}
 use native.Mathlib.Numerals.{add-one}
 use native.Mathlib.Omega.{arith}
-use lib.Dec.{eqb, leb}
+use lib.Dec.{eqb}
 use lib.Pow.{pow-pos}
 use lib.ListN.{length, getD, take, set, length-set}
 use lib.Seq.{take-suc-set, take-all}
 use borrow.Author.Tests.{le-leb}
-use Rattle.lists.specs.Tabulate.{tab, all, count}
+use Rattle.lists.specs.Tabulate.{tab, all}
 use Rattle.lists.proofs.Blocks.{tab-more}
+use Rattle.lists.proofs.Checks.{within-high}
 use Rattle.lists.proofs.Count.{count-none}
 use Rattle.lists.proofs.Tabulate.{tab-ext, getD-tab, all-last}
 use Rattle.polynomial.specs.Polynomial.{value}
@@ -29,9 +30,8 @@ use Rattle.decoding.specs.Decoding.{surplus, need, agreeing, nth, find}
 use Rattle.decoding.proofs.Answers.{card-32}
 use Rattle.decoding.proofs.Apart.{too-few}
 use Rattle.decoding.proofs.Points.{own-distinct, length-own}
-use Rattle.decoding.proofs.Refusals.{small}
 use Rattle.decoding.proofs.Search.{Found, find-found}
-use Rattle.decoding.proofs.Unique.{agrees, agreeing-same, need-least}
+use Rattle.decoding.proofs.Unique.{agreeing-same, need-least}
 use Rattle.decoding.proofs.Words.{wordAt, no-word, by-words}
 use Rattle.reconstruction.specs.Reconstruction.{atZero}
 use Rattle.reconstruction.specs.Room.{Room}
@@ -85,10 +85,6 @@ module _ (xs : List ℕ) (distinct : Distinct xs) (t : ℕ) (long : length xs �
         many = need-all t (card (size t) s) enough;
         so-far = refl;
       }
-    where
-      and-true : (b : Bool) → b && true ≡ b
-      and-true true = refl
-      and-true false = refl
 
   module _ (agreed : ℕ) (secret : List ℕ) (k : ℕ) (going : Going agreed secret k) (more : k < d) (left : ℕ) (after : List ℕ)
       (worded : Worded xs t (λ i. y i k) agreed k secret (find xs t 1 (wordAt y k) s) left after) where
@@ -104,13 +100,9 @@ module _ (xs : List ℕ) (distinct : Distinct xs) (t : ℕ) (long : length xs �
               ∙ setOf-ext (size t) (λ i. has agreed i && eqb (value (nth fs 0) (getD xs i 0)) (y i k)) (meetsAll (suc k))
               (λ i l.
               ap₂ (λ (b : Bool) (f : List ℕ). b && eqb (value f (getD xs i 0)) (y i k)) (ap (λ (m : ℕ). has m i) (going .members) ∙ has-setOf (size t) (meetsAll k) i l) (sym p)
-              ∙ join (has s i) (all k (λ j. eqb (value (poly j) (getD xs i 0)) (y i j))) (eqb (value (poly k) (getD xs i 0)) (y i k))
+              ∙ and-assoc (has s i) (all k (λ j. eqb (value (poly j) (getD xs i 0)) (y i j))) (eqb (value (poly k) (getD xs i 0)) (y i k))
               ∙ ap (λ (b : Bool). has s i && b) (sym (all-last k (λ j. eqb (value (poly j) (getD xs i 0)) (y i j))))),
         )
-      where
-        join : (a b c : Bool) → a && b && c ≡ a && (b && c)
-        join true b c = refl
-        join false b c = refl
 
     each-more : (find xs t 1 (wordAt y k) s ≡ some (poly k ∷ [])) → (j : ℕ) → j < suc k → find xs t 1 (wordAt y j) s ≡ some (poly j ∷ [])
     each-more e j l =
@@ -204,7 +196,7 @@ pub record Opening (t d n : ℕ) (words : List ℕ) (s : ℕ) (values f secret :
 
 module _ (t d n w : ℕ) (words : List ℕ) (room : Room t d n w words) (s : ℕ) (dec : Decodable t d words s) where
   low : t ≤ 15
-  low = small t (room .threshold)
+  low = within-high 1 15 t (room .threshold)
 
   pub opening-first : (values f secret : List ℕ) → length values ≡ n → length f ≡ suc t → length secret ≡ d → Opening t d n words s values f secret s 0
   opening-first values f secret ev ef es =

@@ -2,23 +2,24 @@
 -- Assumes nothing.
 use mathlib.Core.Path.{_≡_, refl, sym, ap, ap₂, _∙_, subst}
 use mathlib.Core.Logic.{inl, inr}
-use mathlib.Core.Bool.{Bool, true, false, _&&_, _||_, not}
+use mathlib.Core.Bool.{Bool, true, _&&_}
 use mathlib.Core.Option.{Option, none, some}
-use mathlib.Core.List.{List, []}
-use Prim.Native.Nat.{ℕ, zero, suc, _+_, _≤_, _<_, _^_}
+use mathlib.Core.List.{List}
+use Prim.Native.Nat.{ℕ, zero, suc, _+_, _<_, _^_}
 use native.Mathlib.Nat.{suc-ne-zero}
 use native.Mathlib.Numerals.{add-one}
 use native.Mathlib.Omega.{arith}
-use lib.Dec.{eqb, leb}
+use lib.Dec.{eqb}
 use lib.ListN.{length, getD, set}
 use borrow.Author.Tests.{eq-eqb, le-leb, lt-ltb}
 use Rattle.lists.specs.Checks.{refusal}
-use Rattle.lists.specs.Tabulate.{tab, all}
+use Rattle.lists.specs.Tabulate.{tab}
 use Rattle.lists.proofs.Bools.{test}
+use Rattle.lists.proofs.Checks.{within-high}
 use Rattle.lists.proofs.Tabulate.{length-tab, getD-tab, all-intro}
-use Rattle.field.specs.Field.{prime, isFieldWord}
+use Rattle.field.specs.Field.{prime}
 use Rattle.polynomial.specs.Polynomial.{value}
-use Rattle.members.specs.Members.{size, ownPoints, has, setOf, isSet, card}
+use Rattle.members.specs.Members.{size, ownPoints, has, setOf, card}
 use Rattle.members.proofs.Masks.{setOf-ext}
 use Rattle.shares.specs.Layout.{word}
 use Rattle.decoding.specs.declared.Outcome.{Outcome}
@@ -27,7 +28,7 @@ use Rattle.decoding.specs.Answer.{answerOf}
 use Rattle.decoding.specs.Decoding.{Decoded, nth, find, undecoded, decodedFrom, decode}
 use Rattle.decoding.proofs.Apart.{find-ext}
 use Rattle.decoding.proofs.Points.{own-distinct, length-own, own-point}
-use Rattle.decoding.proofs.Refusals.{judgedAt, accepts, small}
+use Rattle.decoding.proofs.Refusals.{judgedAt, accepts}
 use Rattle.reconstruction.specs.Room.{Room}
 use Rattle.reconstruction.specs.Steps.{Decodable, meeting, narrowed, storedAt, Worded}
 
@@ -76,7 +77,7 @@ module _ (t d n w : ℕ) (words : List ℕ) (room : Room t d n w words) (s : ℕ
         accepts t values s len (room .threshold) (eq-eqb (length values) (size t) as-many) (eq-eqb len (suc t) el) (lt-ltb s (2 ^ size t) (dec .below))
         (le-leb (suc t) (card (size t) s) (dec .enough)) (all-intro (size t) (judgedAt values s) judged)
         ∙ ap (decodedFrom (suc t))
-        (find-ext (ownPoints t) (own-distinct t (small t (room .threshold))) t (length-own t) 1 s (λ i j. getD values i 0) (λ i j. word t d words i k)
+        (find-ext (ownPoints t) (own-distinct t (within-high 1 15 t (room .threshold))) t (length-own t) 1 s (λ i j. getD values i 0) (λ i j. word t d words i k)
         (λ i l j m. value-at i l))
 
     module _ (len : ℕ) (el : len ≡ suc t) (agreed : ℕ) (secret : List ℕ) where

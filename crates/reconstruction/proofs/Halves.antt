@@ -1,24 +1,21 @@
 -- The second half of opening, way by way: 14, 15, 16 and the answer.
 -- Assumes nothing.
-use mathlib.Core.Path.{_≡_, refl, sym, ap, ap₂, _∙_, subst}
-use mathlib.Core.Logic.{_⊎_, inl, inr}
-use mathlib.Core.Bool.{Bool, true, false, _&&_, not}
+use mathlib.Core.Path.{_≡_, refl, sym, ap, _∙_, subst}
+use mathlib.Core.Logic.{inl, inr}
+use mathlib.Core.Bool.{_&&_}
 use mathlib.Core.Option.{Option, none, some}
-use mathlib.Core.List.{List, [], _∷_}
-use Prim.Native.Nat.{ℕ, suc, _+_, _*_, _≤_, _<_, _^_}
+use mathlib.Core.List.{List}
+use Prim.Native.Nat.{ℕ, _≤_, _<_, _^_}
 use native.Mathlib.Omega.{arith}
-use lib.Dec.{eqb, leb}
-use lib.ListN.{length}
 use borrow.Author.Tests.{le-leb, lt-leb, eq-eqb}
-use Rattle.lists.proofs.Count.{count-none}
-use Rattle.members.specs.Members.{size, ownPoints, has, setOf, card}
-use Rattle.members.proofs.Masks.{setOf-lt, has-zero}
+use Rattle.lists.proofs.Checks.{within-high}
+use Rattle.members.specs.Members.{size, ownPoints, has, card}
+use Rattle.members.proofs.Masks.{setOf-lt}
 use Rattle.shares.specs.Layout.{width, word}
 use Rattle.pruning.specs.Pruning.{survivors}
 use Rattle.pruning.proofs.Largest.{survivors-largest, survivors-size}
 use Rattle.decoding.specs.Decoding.{need, agreeing, nth, find}
 use Rattle.decoding.proofs.Answers.{card-32}
-use Rattle.decoding.proofs.Refusals.{small}
 use Rattle.decoding.proofs.Search.{find-found}
 use Rattle.decoding.proofs.Unique.{need-least}
 use Rattle.reconstruction.specs.Reconstruction.{Opened, unopened, required, atZero, openedFrom, finish}
@@ -45,7 +42,7 @@ module _ (t d n w : ℕ) (words : List ℕ) (room : Room t d n w words) (present
 
   module _ (a c req : ℕ) (ea : a ≡ able) (ec : c ≡ card 32 a) (er : req ≡ required t quorum) where
     counted : c ≡ card (size t) able
-    counted = ec ∙ ap (card 32) ea ∙ card-32 t able (small t (room .threshold)) usable-lt
+    counted = ec ∙ ap (card 32) ea ∙ card-32 t able (within-high 1 15 t (room .threshold)) usable-lt
 
     pub finish-14 : c < req → (answer : Opened) (len : ℕ) → len ≡ d → answer ≡ unopened len 0 14 → answer ≡ answered
     unfolding finish
@@ -80,10 +77,8 @@ module _ (t d n w : ℕ) (words : List ℕ) (room : Room t d n w words) (present
                   usable-words t d present words i l (survivor-usable t d able words (survivors t rows) (survivors-largest t rows .closed) i l h) k (omega arith);
             })
 
-        pub counted-survivors : (v : ℕ) → v ≡ card 32 s → (t < v) × (v ≡ card (size t) s)
-        counted-survivors v e =
-            let q : v ≡ card (size t) s = e ∙ card-32 t s (small t (room .threshold)) (decodable .below) in
-            (omega (arith, q, decodable .enough), q)
+        pub counted-survivors : (v : ℕ) → v ≡ card 32 s → v ≡ card (size t) s
+        counted-survivors v e = e ∙ card-32 t s (within-high 1 15 t (room .threshold)) (decodable .below)
 
         abbrev sought : Option (List (List ℕ))
         sought = find (ownPoints t) t d (word t d words) s

@@ -1,19 +1,20 @@
 -- What opening answers, for any distinct points: 16 exactly where nothing fits, and else the only answer.
 -- Assumes nothing.
-use mathlib.Core.Path.{_≡_, refl, sym, ap, _∙_}
+use mathlib.Core.Path.{_≡_, refl, sym}
 use mathlib.Core.Logic.{_⊎_, inl, inr}
-use mathlib.Core.Bool.{Bool, true, false}
+use mathlib.Core.Bool.{true}
 use mathlib.Core.Option.{Option, none, some}
 use mathlib.Core.List.{List}
 use Prim.Native.Nat.{ℕ, suc, _+_, _*_, _^_, _≤_, _<_}
 use native.Mathlib.Omega.{arith}
 use native.Mathlib.Nat.{le-refl}
 use native.Mathlib.Numerals.{add-one}
-use lib.Dec.{leb, eqb}
+use lib.Dec.{eqb}
 use lib.ListN.{length, replicate}
-use borrow.Author.Tests.{le-leb, leb-true, lt-ltb, eq-eqb, ne-eqb}
+use borrow.Author.Tests.{le-leb, lt-ltb, eq-eqb, ne-eqb}
 use Rattle.lists.specs.Checks.{refusal, within}
-use Rattle.lists.proofs.Bools.{test, and-left}
+use Rattle.lists.proofs.Bools.{test}
+use Rattle.lists.proofs.Checks.{within-low}
 use Rattle.lists.proofs.Tabulate.{tab-ext}
 use Rattle.polynomial.specs.Polynomial.{value}
 use Rattle.polynomial.proofs.Roots.{Distinct}
@@ -21,9 +22,9 @@ use Rattle.members.specs.Members.{isThreshold, size, ownPoints, card}
 use Rattle.shares.specs.Layout.{isLength, width, word}
 use Rattle.pruning.specs.Pruning.{survivors}
 use Rattle.decoding.specs.Decoding.{agreeing, Fits, nth, find}
-use Rattle.decoding.proofs.Search.{Found, find-found, find-complete, find-none, none-fits}
+use Rattle.decoding.proofs.Search.{find-found, find-none}
 use Rattle.decoding.proofs.Unique.{fits-agreeing, fits-value}
-use Rattle.reconstruction.specs.declared.Outcome.the-variants.{Open, Refused}
+use Rattle.reconstruction.specs.declared.Outcome.the-variants.{Refused}
 use Rattle.reconstruction.specs.Answer.{answerOf}
 use Rattle.reconstruction.specs.Votes.{usable, voteRows}
 use Rattle.reconstruction.specs.Reconstruction.{Opened, unopened, isQuorum, required, atZero, openedFrom, finish, reconstruct}
@@ -98,7 +99,7 @@ unfolding isQuorum required
 required-least t quorum h =
     elim (test (eqb quorum 0)) [
       | inl e ↦ rw e (le-refl (suc t))
-      | inr e ↦ rw e (leb-true (suc t) quorum (and-left (leb (suc t) quorum) (leb quorum (size t)) (rw e at h)))
+      | inr e ↦ rw e (within-low (suc t) (size t) quorum (rw e at h))
     ]
 
 -- what the code's tests of the quorum come to

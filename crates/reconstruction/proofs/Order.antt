@@ -4,17 +4,16 @@ use mathlib.Core.Path.{_≡_, refl, sym, ap, _∙_}
 use mathlib.Core.Bool.{Bool, true, false}
 use mathlib.Core.List.{List}
 use Prim.Native.Nat.{ℕ, _+_, _*_, _≤_, _<_, _^_}
-use native.Mathlib.Nat.{mul-le-mul}
 use native.Mathlib.Omega.{arith}
-use lib.Dec.{leb, eqb}
+use lib.Dec.{leb}
 use lib.ListN.{length}
-use borrow.Author.Tests.{leb-true, eq-eqb, ne-eqb, le-leb, lt-leb, ltb-true}
+use borrow.Author.Tests.{eq-eqb, ne-eqb, le-leb, lt-leb, ltb-true}
 use Rattle.lists.specs.Checks.{within}
-use Rattle.lists.proofs.Bools.{and-left, and-right}
+use Rattle.lists.proofs.Checks.{within-high}
 use Rattle.members.specs.Members.{isThreshold, size, ownPoints, isSet, firstOf}
 use Rattle.members.proofs.Words.{firstOf-isSet}
 use Rattle.shares.specs.Layout.{width, word}
-use Rattle.decoding.proofs.Refusals.{small}
+use Rattle.shares.proofs.Places.{all-fit}
 use Rattle.reconstruction.specs.Reconstruction.{Opened, unopened, isQuorum, finish, reconstruct}
 use Rattle.reconstruction.specs.Room.{Room}
 use Rattle.reconstruction.specs.Votes.{usable, voteRows}
@@ -41,14 +40,14 @@ module _ (t d present quorum : ℕ) (words : List ℕ) (b1 : Bool) (e1 : b1 ≡ 
       in-length = sym e2 ∙ y2
 
       pub t-most : t ≤ 15
-      t-most = small t threshold
+      t-most = within-high 1 15 t threshold
 
       pub d-most : d ≤ 64
-      d-most = leb-true d 64 (and-right (leb 1 d) (leb d 64) in-length)
+      d-most = within-high 1 64 d in-length
 
       -- the largest buffer of shares
       pub most-words : (2 * t + 1) * (d + 3 * (2 * t + 1)) ≤ 4867
-      most-words = mul-le-mul {n₂ = 31} {m₂ = 157} (omega (arith, t-most)) (omega (arith, t-most, d-most))
+      most-words = all-fit t d t-most d-most
 
       pub refused-11 : (length words ≡ (2 * t + 1) * (d + 3 * (2 * t + 1)) → ⊥) → (answer : Opened) → answer ≡ unopened d 0 11 → answer ≡ opened
       unfolding reconstruct size width

@@ -1,10 +1,10 @@
 -- Where the words of the shares stand, for the functions that read them.
 -- Assumes nothing.
-use mathlib.Core.Path.{_≡_, refl, sym, ap, ap₂, _∙_}
+use mathlib.Core.Path.{_≡_, sym, ap, ap₂, _∙_}
 use mathlib.Core.Bool.{Bool}
 use mathlib.Core.List.{List}
-use Prim.Native.Nat.{ℕ, suc, _+_, _-_, _*_, _≤_, _<_}
-use native.Mathlib.Nat.{mul-le-mul-right, suc-mul, add-assoc, le-refl}
+use Prim.Native.Nat.{ℕ, _+_, _-_, _*_, _≤_, _<_}
+use native.Mathlib.Nat.{add-assoc, le-refl}
 use native.Mathlib.Omega.{arith}
 use lib.Dec.{eqb}
 use lib.ListN.{length, getD, take, drop, length-drop}
@@ -14,7 +14,8 @@ use Rattle.lists.proofs.Tabulate.{length-tab, getD-tab, each-tab}
 use Rattle.field.specs.Field.{isFieldWord}
 use Rattle.mac.specs.Tag.{tag}
 use Rattle.members.specs.Members.{size}
-use Rattle.shares.specs.Layout.{width, word, shareWords, tagWord, keyα, keyβ}
+use Rattle.shares.specs.Layout.{word, shareWords, tagWord, keyα, keyβ}
+use Rattle.shares.proofs.Places.{row-inside}
 use Rattle.reconstruction.specs.Room.{Room}
 use Rattle.reconstruction.specs.Votes.{fieldShare, tagHolds}
 
@@ -28,10 +29,7 @@ tag-part words d own key at v e =
 module _ (t d n w : ℕ) (words : List ℕ) (room : Room t d n w words) where
   -- a whole share is in the buffer
   pub share-inside : (i : ℕ) → i < n → i * w + w ≤ length words
-  share-inside i h =
-      let m : suc i * w ≤ n * w = mul-le-mul-right w h in
-      let s : suc i * w ≡ i * w + w = suc-mul i w in
-      omega (arith, room .long)
+  share-inside i h = omega (arith, room .long, row-inside i n w h)
 
   -- place k of member i's share is in the buffer
   pub place : (i k : ℕ) → i < n → k < w → i * w + k < length words

@@ -379,7 +379,7 @@ fn open_shares(
     if survived == 0 {
         return refuse(secret, 15, 0);
     }
-    let enough = decoding::need(t, members::card(survived) as usize);
+    let enough = decoding::need(t as u16, members::card(survived));
     let agreed = open_all(t, d, n, width, shares, survived, enough, secret);
     if agreed == 0 {
         return refuse(secret, 16, survived);

@@ -3,7 +3,7 @@
 use mathlib.Core.Path.{_≡_, refl, sym, ap, _∙_}
 use mathlib.Core.Bool.{Bool, true, false}
 use mathlib.Core.List.{List, [], _∷_}
-use Prim.Native.Nat.{ℕ, zero, suc, _+_, _*_, _≤_}
+use Prim.Native.Nat.{ℕ, zero, suc, _*_}
 use native.Mathlib.Nat.{suc-ne-zero}
 use native.Mathlib.Omega.{arith}
 use borrow.Author.Tests.{ne-eqb}
@@ -17,7 +17,6 @@ use Rattle.handin.specs.Answers.{answerOf}
 use Rattle.handin.specs.declared.Outcome.{Outcome}
 use Rattle.handin.specs.declared.Outcome.the-variants.{Accepted, Refused}
 use Rattle.handin.proofs.Sound.{sound}
-use Rattle.handin.proofs.Taking.{place-end}
 use Rattle.report.specs.Report.{line, printOpened, printRead, report}
 use Rattle.report.specs.Writing.{opening}
 
@@ -40,7 +39,3 @@ module _ (text words : List ℕ) {len : ℕ} {r : Outcome} (full : len ≡ capac
   prints-unread (suc k) e =
       sym (ap (λ (b : Bool). elim b [ true ↦ printOpened 0 (reconstruct 0 0 0 0 (take (size 0 * width 0 0) words)) | false ↦ line "REFUSED" (suc k ∷ 0 ∷ []) ]) (ne-eqb (suc k) 0 (suc-ne-zero k)))
       ∙ ap printRead (answered (Refused (suc k)) e)
-
--- the words that are opened are in the buffer
-pub all-fit : (t d : ℕ) → InRange t d → (2 * t + 1) * (d + 3 * (2 * t + 1)) ≤ 4867
-all-fit t d i = omega (arith, place-end t d (2 * t) i (omega arith))

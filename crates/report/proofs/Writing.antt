@@ -7,13 +7,8 @@ use native.Mathlib.Nat.{add-zero}
 use native.Mathlib.Omega.{arith}
 use lib.ListN.{length, set, drop, length-append}
 use lib.Seq.{sets, sets-eq, set-comm, length-sets}
+use Rattle.lists.proofs.Stores.{sets-append}
 use Rattle.report.specs.Writing.{Written, Reported}
-
-sets-append : (l xs ys : List ℕ) (at : ℕ) → sets l at (xs ++ ys) ≡ sets (sets l at xs) (at + length xs) ys
-sets-append l [] ys at = ap (λ (k : ℕ). sets l k ys) (sym (add-zero at))
-sets-append l (x ∷ xs) ys at =
-    let n : suc at + length xs ≡ at + suc (length xs) = omega arith in
-    sets-append (set l at x) xs ys (suc at) ∙ ap (λ (k : ℕ). sets (sets (set l at x) (suc at) xs) k ys) n
 
 -- the last byte may be stored first
 pub sets-last : (l xs : List ℕ) (y at : ℕ) → sets l at (xs ++ (y ∷ [])) ≡ sets (set l (at + length xs) y) at xs

@@ -1,3 +1,4 @@
 -- What is proved of this crate.
 pub mod Examples
+pub mod Places
 pub mod Same

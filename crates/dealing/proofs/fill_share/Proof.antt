@@ -17,7 +17,8 @@ use Rattle.shares.specs.Layout.{width}
 use Rattle.dealing.specs.Dealing.{dealtWords, dealtTag, dealtShare}
 use Rattle.dealing.specs.Steps.{wordsAt, tagsOf, keysOf}
 use Rattle.dealing.proofs.Laws.{length-words, length-tags}
-use Rattle.dealing.proofs.Places.{size-le, share-inside}
+use Rattle.members.proofs.Words.{size-31}
+use Rattle.dealing.proofs.Places.{share-inside}
 use Rattle.dealing.proofs.fill_share.Statement.{statement}
 use Rattle.dealing.proofs.fill_share.Tie as tie
 
@@ -87,7 +88,7 @@ add-fill-words c = omega arith
 
 cast-fill-words : tie.Need-cast-fill-words
 unfolding size
-cast-fill-words c = omega (arith, size-le _ (c .before .before .before .pre .0))
+cast-fill-words c = omega (arith, size-31 _ (c .before .before .before .pre .0))
 
 fill-words-requires : tie.Need-fill-words-requires
 unfolding size

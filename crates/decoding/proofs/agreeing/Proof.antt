@@ -5,7 +5,8 @@ use native.Mathlib.Omega.{arith}
 use lib.ListN.{length, getD}
 use Rattle.members.specs.Members.{size, ownPoints}
 use Rattle.decoding.proofs.Unique.{agrees}
-use Rattle.decoding.proofs.Passes.{below-32, size-31}
+use Rattle.members.proofs.Words.{size-31}
+use Rattle.decoding.proofs.Passes.{below-32}
 use Rattle.decoding.proofs.Turns.{Counted, counted-first, counted-next, counted-small, agrees-at, agree-last}
 use Rattle.decoding.proofs.agreeing.Statement.{statement}
 use Rattle.decoding.proofs.agreeing.Tie as tie

@@ -10,9 +10,10 @@ use lib.ListN.{length}
 use borrow.Author.Needs.{needs}
 use borrow.Author.Tests.{eq-eqb, ne-eqb, le-leb, lt-leb, leb-true, ltb-true, not-true, not-false}
 use Rattle.lists.specs.Tabulate.{all}
+use Rattle.lists.proofs.Checks.{within-high}
 use Rattle.members.specs.Members.{isThreshold, size, isSet, card}
 use Rattle.members.proofs.Words.{size-le, size-of}
-use Rattle.decoding.proofs.Refusals.{judgedAt, refuses-1, refuses-11, refuses-19, refuses-12, refuses-17, refuses-18, accepts, small, proper-test, members-test, words-test}
+use Rattle.decoding.proofs.Refusals.{judgedAt, refuses-1, refuses-11, refuses-19, refuses-12, refuses-17, refuses-18, accepts, proper-test, members-test, words-test}
 use borrow.Author.Needs.{needs}
 use Rattle.decoding.proofs.decode_near.Statement.{statement}
 use Rattle.decoding.proofs.decode_near.Tie as tie
@@ -134,7 +135,7 @@ returns-6 : tie.Need-returns-6
 returns-6 c = c .before .before .refuse6 .ensures ∙ sym (refuses-18 _ _ _ _ (threshold (c .before .before .before .before .before .before .before .before .before .before .before .before)) (n-test (c .before .before .before .before .before .before .before .before .before .before .before)) (room-test (c .before .before .before .before .before .before .before .before .before .before)) (proper (c .before .before .before .before .before .before .before .before)) (enough (c .before .before .before .before .before .before)) (sym (words-of (c .before .before .before .before .before)) ∙ not-true _ (c .before .before .before .before .if6 .taken)))
 
 solve-requires : tie.Need-solve-requires
-solve-requires c κs = (n-values (c .before .before .before .before .before .before .before .before), small _ (threshold (c .before .before .before .before .before .before .before .before .before)), leb-true _ _ (enough (c .before .before .before)), ltb-true _ _ (proper (c .before .before .before .before .before)), room (c .before .before .before .before .before .before .before))
+solve-requires c κs = (n-values (c .before .before .before .before .before .before .before .before), within-high 1 15 _ (threshold (c .before .before .before .before .before .before .before .before .before)), leb-true _ _ (enough (c .before .before .before)), ltb-true _ _ (proper (c .before .before .before .before .before)), room (c .before .before .before .before .before .before .before))
 
 same-length-7 : tie.Need-same-length-7
 same-length-7 c = search needs

@@ -3,8 +3,6 @@
 use mathlib.Core.Path.{sym, _∙_}
 use native.Mathlib.Omega.{arith}
 use lib.Seq.{length-take-le}
-use Rattle.members.proofs.Masks.{card-le}
-use Rattle.decoding.proofs.Answers.{card-32}
 use Rattle.decoding.proofs.Hints.{no-guess, right-guess}
 use borrow.Author.Needs.{needs}
 use Rattle.decoding.proofs.guess.Statement.{statement}
@@ -37,14 +35,14 @@ slice-aggregate-interpolate c = sym (length-take-le _ _ (omega (arith, c .before
 interpolate-requires : tie.Need-interpolate-requires
 interpolate-requires c κs = search needs
 
-card-requires : tie.Need-card-requires
-card-requires c κs = search needs
-
 cast-need : tie.Need-cast-need
 cast-need c = search needs
 
+card-requires : tie.Need-card-requires
+card-requires c κs = search needs
+
 need-requires : tie.Need-need-requires
-need-requires c κs = (c .before .before .before .before .before .before .before .before .before .before .before .before .before .before .before .before .before .before .pre .0 .1, omega (arith, c .card .ensures, card-32 _ _ (c .before .before .before .before .before .before .before .before .before .before .before .before .before .before .before .before .before .before .pre .0 .1) (c .before .before .before .before .before .before .before .before .before .before .before .before .before .before .before .before .before .before .pre .0 .3), c .before .before .before .before .before .before .before .before .before .before .before .before .before .before .before .before .before .before .pre .0 .2), omega (arith, c .card .ensures, card-le 32 (c .before .before .before .before .before .before .before .before .before .before .before .before .before .before .before .before .before .before .args .set)))
+need-requires c κs = search needs
 
 agreeing-requires : tie.Need-agreeing-requires
 agreeing-requires c κs = search needs
@@ -80,8 +78,8 @@ guess-spec =
     slice-reshare-prefix-interpolate
     slice-aggregate-interpolate
     interpolate-requires
-    card-requires
     cast-need
+    card-requires
     need-requires
     agreeing-requires
     same-length-3

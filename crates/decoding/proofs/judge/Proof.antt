@@ -4,8 +4,7 @@ use mathlib.Core.Path.{refl, sym, _∙_}
 use native.Mathlib.Omega.{arith}
 use borrow.Author.Needs.{needs}
 use lib.Seq.{length-take-le}
-use Rattle.members.proofs.Masks.{card-le}
-use Rattle.decoding.proofs.Answers.{card-32, judge-few, judge-none, judge-found}
+use Rattle.decoding.proofs.Answers.{judge-few, judge-none, judge-found}
 use borrow.Author.Needs.{needs}
 use Rattle.decoding.proofs.judge.Statement.{statement}
 use Rattle.decoding.proofs.judge.Tie as tie
@@ -37,14 +36,14 @@ slice-aggregate-interpolate c = sym (length-take-le _ _ (omega (arith, c .before
 interpolate-requires : tie.Need-interpolate-requires
 interpolate-requires c κs = search needs
 
-card-requires : tie.Need-card-requires
-card-requires c κs = search needs
-
 cast-need : tie.Need-cast-need
 cast-need c = search needs
 
+card-requires : tie.Need-card-requires
+card-requires c κs = search needs
+
 need-requires : tie.Need-need-requires
-need-requires c κs = (c .before .before .before .before .before .before .before .before .before .before .before .before .before .before .before .before .before .before .pre .0 .1, omega (arith, c .card .ensures, card-32 _ _ (c .before .before .before .before .before .before .before .before .before .before .before .before .before .before .before .before .before .before .pre .0 .1) (c .before .before .before .before .before .before .before .before .before .before .before .before .before .before .before .before .before .before .pre .0 .3), c .before .before .before .before .before .before .before .before .before .before .before .before .before .before .before .before .before .before .pre .0 .2), omega (arith, c .card .ensures, card-le 32 (c .before .before .before .before .before .before .before .before .before .before .before .before .before .before .before .before .before .before .args .set)))
+need-requires c κs = search needs
 
 agreeing-requires : tie.Need-agreeing-requires
 agreeing-requires c κs = search needs
@@ -83,8 +82,8 @@ judge-spec =
     slice-reshare-prefix-interpolate
     slice-aggregate-interpolate
     interpolate-requires
-    card-requires
     cast-need
+    card-requires
     need-requires
     agreeing-requires
     refuse-requires-2

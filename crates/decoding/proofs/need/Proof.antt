@@ -3,15 +3,15 @@
 use native.Mathlib.Omega.{arith}
 use borrow.Author.Needs.{needs}
 use Rattle.decoding.specs.Decoding.{surplus, need}
-use borrow.Author.Needs.{needs}
 use Rattle.decoding.proofs.need.Statement.{statement}
 use Rattle.decoding.proofs.need.Tie as tie
 
-add-surplus : tie.Need-add-surplus
-add-surplus c = search needs
+add-least : tie.Need-add-least
+add-least c = search needs
 
-sub-surplus : tie.Need-sub-surplus
-sub-surplus c = search needs
+returns : tie.Need-returns
+unfolding need surplus
+returns c = omega arith
 
 add-result : tie.Need-add-result
 add-result c = search needs
@@ -19,13 +19,9 @@ add-result c = search needs
 add-result-2 : tie.Need-add-result-2
 add-result-2 c = search needs
 
-add-result-3 : tie.Need-add-result-3
-add-result-3 c = search needs
-
-returns : tie.Need-returns
+returns-2 : tie.Need-returns-2
 unfolding need surplus
-returns c = omega arith
+returns-2 c = omega arith
 
 pub need-spec : {M : Type 1} → statement M
-need-spec =
-    tie.close (tie.spec add-surplus sub-surplus add-result add-result-2 add-result-3 returns)
+need-spec = tie.close (tie.spec add-least returns add-result add-result-2 returns-2)

@@ -7,7 +7,8 @@ use native.Mathlib.Omega.{arith}
 use borrow.Author.Tests.{not-true, not-false}
 use lib.ListN.{length, drop}
 use Rattle.handin.specs.Steps.{digitsFrom}
-use Rattle.handin.proofs.Numerals.{digits-bad, digits-step, digits-over, digits-done, digit-low}
+use Rattle.lists.proofs.Checks.{within-low}
+use Rattle.handin.proofs.Numerals.{digits-bad, digits-step, digits-over, digits-done}
 use Rattle.handin.proofs.digits.Statement.{statement}
 use Rattle.handin.proofs.digits.Tie as tie
 
@@ -33,7 +34,7 @@ mul-value : tie.Need-mul-value Inv-loop μ-loop
 mul-value c = omega arith
 
 sub-value : tie.Need-sub-value Inv-loop μ-loop
-sub-value c = digit-low _ (sym (c .before .is-digit .ensures) ∙ not-false _ (c .if1 .left))
+sub-value c = within-low 48 57 _ (sym (c .before .is-digit .ensures) ∙ not-false _ (c .if1 .left))
 
 cast-value : tie.Need-cast-value Inv-loop μ-loop
 cast-value c = omega (arith, c .before .before .shared-slice-known2 .given (c .before .before .before .before .loop .i))

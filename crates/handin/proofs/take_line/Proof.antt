@@ -15,7 +15,7 @@ same-length : tie.Need-same-length
 same-length c = search needs
 
 returns : tie.Need-returns
-returns c = take-none _ _ _ _ _ _ (line-none _ _ _ (c .before .before .before .before .before .before .before .before .args .scratch .now) (c .before .before .before .numbers .last .1 .1 .0) (c .before .before .before .before .before .before .before .before .pre .1 .0 .0) (c .before .before .before .numbers .ensures) (not-true (c .before .before .before .numbers .result) (c .if1 .taken)))
+returns c = take-none _ _ _ _ _ _ (line-none _ _ _ (c .before .before .before .before .before .before .before .before .args .scratch .now) (c .before .before .before .numbers .last .1 .1 .0) (c .before .before .before .before .before .before .before .before .pre .1 .0) (c .before .before .before .numbers .ensures) (not-true (c .before .before .before .numbers .result) (c .if1 .taken)))
 
 take-share-requires : tie.Need-take-share-requires
 take-share-requires c κs = search needs
@@ -27,7 +27,7 @@ same-length-3 : tie.Need-same-length-3
 same-length-3 c = search needs
 
 returns-2 : tie.Need-returns-2
-returns-2 c = take-some _ _ _ _ _ _ _ _ (line-some _ _ _ (c .before .before .before .before .before .before .before .before .before .before .before .before .before .args .scratch .now) _ (c .before .before .before .before .before .before .before .before .before .before .before .before .before .pre .1 .0 .0) (c .before .before .before .before .before .before .before .before .numbers .ensures) (not-false (c .before .before .before .before .before .before .before .before .numbers .result) (c .before .before .before .before .before .if1 .left))) (c .before .before .take-share .ensures)
+returns-2 c = take-some _ _ _ _ _ _ _ _ (line-some _ _ _ (c .before .before .before .before .before .before .before .before .before .before .before .before .before .args .scratch .now) _ (c .before .before .before .before .before .before .before .before .before .before .before .before .before .pre .1 .0) (c .before .before .before .before .before .before .before .before .numbers .ensures) (not-false (c .before .before .before .before .before .before .before .before .numbers .result) (c .before .before .before .before .before .if1 .left))) (c .before .before .take-share .ensures)
 
 pub take-line-spec : {M : Type 1} → statement M
 take-line-spec =

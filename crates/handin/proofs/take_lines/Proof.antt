@@ -12,7 +12,7 @@ use lib.Seq.{length-take-le}
 use Rattle.handin.specs.Lines.{parts}
 use Rattle.handin.specs.Reader.{takeLines}
 use Rattle.handin.proofs.FieldLaws.{part-all, part-less, ends-before}
-use Rattle.handin.proofs.Reaching.{Reached, reached-start, reached-mask, reached-unended, reached-refused, reached-next, answer-refused, answer-accepted}
+use Rattle.handin.proofs.Reaching.{Reached, reached-start, reached-unended, reached-refused, reached-next, answer-refused, answer-accepted}
 use Rattle.handin.proofs.take_lines.Statement.{statement}
 use Rattle.handin.proofs.take_lines.Tie as tie
 
@@ -41,7 +41,7 @@ slice-aggregate-take-line : tie.Need-slice-aggregate-take-line Inv-loop μ-loop
 slice-aggregate-take-line c = sym (length-take-le _ _ (c .before .before .scan .ensures .inside))
 
 take-line-requires : tie.Need-take-line-requires Inv-loop μ-loop
-take-line-requires c κs = (c .before .before .before .before .before .before .before .before .before .before .pre .0, ((c .before .before .before .before .before .before .loop .inv .0 ∙ c .before .before .before .before .before .before .before .before .before .before .pre .1 .0 .0, c .before .before .before .before .before .before .loop .inv .1 .0 ∙ c .before .before .before .before .before .before .before .before .before .before .pre .1 .0 .1), reached-mask _ _ _ _ _ _ (c .before .before .before .before .before .before .loop .inv .1 .1 .1) (c .before .before .before .before .before .before .before .before .before .before .pre .0)))
+take-line-requires c κs = (c .before .before .before .before .before .before .before .before .before .before .pre .0, (c .before .before .before .before .before .before .loop .inv .0 ∙ c .before .before .before .before .before .before .before .before .before .before .pre .1 .0 .0, c .before .before .before .before .before .before .loop .inv .1 .0 ∙ c .before .before .before .before .before .before .before .before .before .before .pre .1 .0 .1))
 
 enum-known-p : tie.Need-enum-known-p Inv-loop μ-loop
 enum-known-p c = search needs

@@ -1,8 +1,6 @@
 -- `reconstruction::open_shares` meets its contract, way by way.
 -- Assumes nothing.
-use mathlib.Core.Path.{_≡_, sym, ap, _∙_}
-use native.Mathlib.Omega.{arith}
-use Rattle.members.proofs.Masks.{card-le}
+use mathlib.Core.Path.{ap, _∙_}
 use Rattle.decoding.specs.Decoding.{need}
 use Rattle.reconstruction.proofs.Halves.{finish-14, finish-15, decodable, counted-survivors, finish-16, finish-0}
 use borrow.Author.Needs.{needs}
@@ -42,17 +40,17 @@ same-length-2 c = search needs
 returns-2 : tie.Need-returns-2
 returns-2 c = finish-15 _ _ _ _ _ (c .before .before .before .before .before .before .before .before .before .before .before .before .pre .0) (c .before .before .before .before .before .before .before .before .before .before .before .before .args .present) (c .before .before .before .before .before .before .before .before .before .before .before .before .args .quorum) _ _ _ (c .before .before .before .before .before .before .before .before .before .usable-members .ensures) (c .before .before .before .before .before .before .before .before .card .ensures) (c .before .before .before .before .before .before .before .required-members .ensures) (c .before .before .before .before .before .before .if1 .left) _ (c .before .before .before .before .before .survivors-of .ensures) (c .before .before .before .before .if2 .taken) _ _ (c .before .before .before .before .before .before .before .before .before .before .before .before .pre .1) (c .before .before .refuse2 .ensures)
 
-card-requires-2 : tie.Need-card-requires-2
-card-requires-2 c κs = search needs
-
 cast-need : tie.Need-cast-need
 cast-need c = search needs
 
+card-requires-2 : tie.Need-card-requires-2
+card-requires-2 c κs = search needs
+
 need-requires : tie.Need-need-requires
-need-requires c κs = (omega (arith, c .before .before .before .before .before .before .before .before .before .pre .0 .twice, c .before .before .before .before .before .before .before .before .before .pre .0 .few), counted-survivors _ _ _ _ _ (c .before .before .before .before .before .before .before .before .before .pre .0) (c .before .before .before .before .before .before .before .before .before .args .present) (c .before .before .before .before .before .before .before .before .before .args .quorum) _ _ _ (c .before .before .before .before .before .before .usable-members .ensures) (c .before .before .before .before .before .card .ensures) (c .before .before .before .before .required-members .ensures) (c .before .before .before .if1 .left) _ (c .before .before .survivors-of .ensures) (c .before .if2 .left) _ (c .card2 .ensures) .0, omega (arith, c .card2 .ensures, card-le 32 (c .before .before .survivors-of .result)))
+need-requires c κs = search needs
 
 open-all-requires : tie.Need-open-all-requires
-open-all-requires c κs = (c .before .before .before .before .before .before .before .before .before .before .before .pre .0, (decodable _ _ _ _ _ (c .before .before .before .before .before .before .before .before .before .before .before .pre .0) (c .before .before .before .before .before .before .before .before .before .before .before .args .present) (c .before .before .before .before .before .before .before .before .before .before .before .args .quorum) _ _ _ (c .before .before .before .before .before .before .before .before .usable-members .ensures) (c .before .before .before .before .before .before .before .card .ensures) (c .before .before .before .before .before .before .required-members .ensures) (c .before .before .before .before .before .if1 .left) _ (c .before .before .before .before .survivors-of .ensures) (c .before .before .before .if2 .left), (c .before .before .before .before .before .before .before .before .before .before .before .pre .1, c .before .need .ensures ∙ ap (need _) (counted-survivors _ _ _ _ _ (c .before .before .before .before .before .before .before .before .before .before .before .pre .0) (c .before .before .before .before .before .before .before .before .before .before .before .args .present) (c .before .before .before .before .before .before .before .before .before .before .before .args .quorum) _ _ _ (c .before .before .before .before .before .before .before .before .usable-members .ensures) (c .before .before .before .before .before .before .before .card .ensures) (c .before .before .before .before .before .before .required-members .ensures) (c .before .before .before .before .before .if1 .left) _ (c .before .before .before .before .survivors-of .ensures) (c .before .before .before .if2 .left) _ (c .before .before .card2 .ensures) .1))))
+open-all-requires c κs = (c .before .before .before .before .before .before .before .before .before .before .before .pre .0, (decodable _ _ _ _ _ (c .before .before .before .before .before .before .before .before .before .before .before .pre .0) (c .before .before .before .before .before .before .before .before .before .before .before .args .present) (c .before .before .before .before .before .before .before .before .before .before .before .args .quorum) _ _ _ (c .before .before .before .before .before .before .before .before .usable-members .ensures) (c .before .before .before .before .before .before .before .card .ensures) (c .before .before .before .before .before .before .required-members .ensures) (c .before .before .before .before .before .if1 .left) _ (c .before .before .before .before .survivors-of .ensures) (c .before .before .before .if2 .left), (c .before .before .before .before .before .before .before .before .before .before .before .pre .1, c .before .need .ensures ∙ ap (need _) (counted-survivors _ _ _ _ _ (c .before .before .before .before .before .before .before .before .before .before .before .pre .0) (c .before .before .before .before .before .before .before .before .before .before .before .args .present) (c .before .before .before .before .before .before .before .before .before .before .before .args .quorum) _ _ _ (c .before .before .before .before .before .before .before .before .usable-members .ensures) (c .before .before .before .before .before .before .before .card .ensures) (c .before .before .before .before .before .before .required-members .ensures) (c .before .before .before .before .before .if1 .left) _ (c .before .before .before .before .survivors-of .ensures) (c .before .before .before .if2 .left) _ (c .before .before .card2 .ensures)))))
 
 refuse-requires-3 : tie.Need-refuse-requires-3
 refuse-requires-3 c κs = search needs
@@ -84,8 +82,8 @@ open-shares-spec =
     refuse-requires-2
     same-length-2
     returns-2
-    card-requires-2
     cast-need
+    card-requires-2
     need-requires
     open-all-requires
     refuse-requires-3

@@ -7,9 +7,9 @@ use lib.ListN.{take}
 use lib.Seq.{length-take-le}
 use Rattle.members.specs.Members.{size}
 use Rattle.shares.specs.Layout.{width}
+use Rattle.shares.proofs.Places.{all-fit}
 use Rattle.report.specs.Writing.{opening}
 use Rattle.report.proofs.Writing.{written-as}
-use Rattle.report.proofs.Reading.{all-fit}
 use borrow.Author.Needs.{needs}
 use Rattle.report.proofs.open_words.Statement.{statement}
 use Rattle.report.proofs.open_words.Tie as tie
@@ -27,10 +27,10 @@ add-count : tie.Need-add-count
 add-count c = search needs
 
 mul-count-2 : tie.Need-mul-count-2
-mul-count-2 c = omega (arith, all-fit (c .before .before .before .args .t) (c .before .before .before .args .d) (c .before .before .before .pre .0))
+mul-count-2 c = omega (arith, all-fit (c .before .before .before .args .t) (c .before .before .before .args .d) (c .before .before .before .pre .0 .t-high) (c .before .before .before .pre .0 .d-high))
 
 slice-aggregate-open-shares : tie.Need-slice-aggregate-open-shares
-slice-aggregate-open-shares c = sym (length-take-le _ (c .before .before .before .before .args .words .now) (omega (arith, c .before .before .before .before .pre .1 .0, all-fit (c .before .before .before .before .args .t) (c .before .before .before .before .args .d) (c .before .before .before .before .pre .0))))
+slice-aggregate-open-shares c = sym (length-take-le _ (c .before .before .before .before .args .words .now) (omega (arith, c .before .before .before .before .pre .1 .0, all-fit (c .before .before .before .before .args .t) (c .before .before .before .before .args .d) (c .before .before .before .before .pre .0 .t-high) (c .before .before .before .before .pre .0 .d-high))))
 
 slice-relend-prefix-open-shares : tie.Need-slice-relend-prefix-open-shares
 slice-relend-prefix-open-shares c = search needs
