@@ -283,7 +283,7 @@ fn field_word(set: u32, i: usize, value: u16) -> bool
     if !members::has(set, i) {
         return true;
     }
-    value < 65521
+    field::is_field_word(value)
 }
 
 // The values of all members of the set are field words.

@@ -133,13 +133,20 @@ pub fn inverse_of_difference(a: u16, b: u16) -> u16
     inverse(subtract(a, b))
 }
 
+// A field word is at most 65520.
+pub fn is_field_word(word: u16) -> bool
+    ensures { λ r. ⌜ r ≡ isFieldWord word ⌝ }
+{
+    word < 65521
+}
+
 // Every word is a field word.
 pub fn are_field_words(words: &[u16]) -> bool
     ensures { λ r. ⌜ r ≡ each isFieldWord (now (words .entry)) ⌝ }
 {
     let mut i = 0;
     while i < words.len() {
-        if 65520 < words[i] {
+        if !is_field_word(words[i]) {
             return false;
         }
         i = i + 1;

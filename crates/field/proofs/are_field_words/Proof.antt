@@ -5,12 +5,11 @@ use mathlib.Core.Bool.{Bool, true, false, _&&_}
 use mathlib.Core.List.{List}
 use Prim.Native.Nat.{ℕ, _+_, _-_, _≤_, _<_, zero-le}
 use native.Mathlib.Omega.{arith}
-use lib.Dec.{ltb}
-use lib.ListN.{length, getD, drop, drop-of-length-le}
-use borrow.Author.Tests.{lt-ltb, le-ltb}
+use lib.ListN.{length, getD, drop}
 use Rattle.lists.specs.Tabulate.{each}
-use Rattle.lists.proofs.InPlace.{left-cons}
-use Rattle.field.specs.Field.{prime, isFieldWord}
+use Rattle.lists.proofs.Bools.{fails, passes}
+use Rattle.lists.proofs.Tabulate.{each-drop, each-end}
+use Rattle.field.specs.Field.{isFieldWord}
 use Rattle.field.proofs.are_field_words.Statement.{statement}
 use Rattle.field.proofs.are_field_words.Tie as tie
 
@@ -21,27 +20,22 @@ record Turn (words : List ℕ) (i : ℕ) : Type 0 where
 first : (words : List ℕ) → Turn words 0
 first words = record { inside = zero-le; so-far = refl }
 
-step : (words : List ℕ) (i : ℕ) → i < length words → each isFieldWord (drop i words) ≡ ltb (getD words i 0) prime && each isFieldWord (drop (i + 1) words)
-unfolding each
-step words i h = ap (each isFieldWord) (left-cons words i 0 h)
-
-next : (words : List ℕ) (i : ℕ) → i < length words → getD words i 0 ≤ 65520 → Turn words i → Turn words (i + 1)
+next : (words : List ℕ) (i : ℕ) → i < length words → isFieldWord (getD words i 0) ≡ true → Turn words i → Turn words (i + 1)
 next words i h w t =
     record {
       inside = omega arith;
       so-far =
-          sym (step words i h ∙ ap (λ (b : Bool). b && each isFieldWord (drop (i + 1) words)) (lt-ltb (getD words i 0) prime (omega arith)))
+          sym (each-drop isFieldWord words i 0 h ∙ ap (λ (b : Bool). b && each isFieldWord (drop (i + 1) words)) w)
           ∙ t .so-far;
     }
 
-found : (words : List ℕ) (i : ℕ) → i < length words → 65520 < getD words i 0 → Turn words i → false ≡ each isFieldWord words
+found : (words : List ℕ) (i : ℕ) → i < length words → isFieldWord (getD words i 0) ≡ false → Turn words i → false ≡ each isFieldWord words
 found words i h w t =
-    sym (step words i h ∙ ap (λ (b : Bool). b && each isFieldWord (drop (i + 1) words)) (le-ltb (getD words i 0) prime (omega arith)))
+    sym (each-drop isFieldWord words i 0 h ∙ ap (λ (b : Bool). b && each isFieldWord (drop (i + 1) words)) w)
     ∙ t .so-far
 
 last : (words : List ℕ) (i : ℕ) → length words ≤ i → Turn words i → true ≡ each isFieldWord words
-unfolding each
-last words i h t = sym (ap (each isFieldWord) (drop-of-length-le words {i = i} h)) ∙ t .so-far
+last words i h t = sym (each-end isFieldWord words i h) ∙ t .so-far
 
 abbrev Inv-loop : tie.InvT-loop
 Inv-loop words i₀ i = Turn words i
@@ -52,14 +46,17 @@ abbrev μ-loop : tie.MeasureT-loop
 loop-holds : tie.Need-loop-holds Inv-loop μ-loop
 loop-holds c = first _
 
-mul-if1 : tie.Need-mul-if1 Inv-loop μ-loop
-mul-if1 c = omega arith
+mul-is-field-word : tie.Need-mul-is-field-word Inv-loop μ-loop
+mul-is-field-word c = omega arith
 
-shared-slice-read-if1 : tie.Need-shared-slice-read-if1 Inv-loop μ-loop
-shared-slice-read-if1 c = omega arith
+shared-slice-read-is-field-word : tie.Need-shared-slice-read-is-field-word Inv-loop μ-loop
+shared-slice-read-is-field-word c = omega arith
+
+is-field-word-requires : tie.Need-is-field-word-requires Inv-loop μ-loop
+is-field-word-requires c κs = tt
 
 returns : tie.Need-returns Inv-loop μ-loop
-returns c = found (c .before .before .before .before .args .words .now) (c .before .before .before .loop .i) (c .before .before .loop-test .taken) (omega arith) (c .before .before .before .loop .inv)
+returns c = found _ _ (c .before .before .before .loop-test .taken) (fails _ _ (c .before .is-field-word .ensures) (c .if1 .taken)) (c .before .before .before .before .loop .inv)
 
 add-i : tie.Need-add-i Inv-loop μ-loop
 add-i c = omega arith
@@ -68,7 +65,7 @@ loop-less : tie.Need-loop-less Inv-loop μ-loop
 loop-less c = omega arith
 
 loop-again : tie.Need-loop-again Inv-loop μ-loop
-loop-again c = next (c .before .before .before .before .args .words .now) (c .before .before .before .loop .i) (c .before .before .loop-test .taken) (omega arith) (c .before .before .before .loop .inv)
+loop-again c = next _ _ (c .before .before .before .loop-test .taken) (passes _ _ (c .before .is-field-word .ensures) (c .if1 .left)) (c .before .before .before .before .loop .inv)
 
 returns-2 : tie.Need-returns-2 Inv-loop μ-loop
 returns-2 c = last _ _ (c .loop-test .left) (c .before .loop .inv)
@@ -80,8 +77,9 @@ are-field-words-spec =
     Inv-loop
     μ-loop
     loop-holds
-    mul-if1
-    shared-slice-read-if1
+    mul-is-field-word
+    shared-slice-read-is-field-word
+    is-field-word-requires
     returns
     add-i
     loop-less
