@@ -23,7 +23,7 @@ use Rattle.mac.specs.Tag.{tag}
 use Rattle.mac.proofs.Tags.{tag-word}
 use Rattle.members.specs.Members.{isThreshold, size, ownPoints}
 use Rattle.shares.specs.Layout.{isLength, width, word, shareWords, tagWord, keyα, keyβ}
-use Rattle.dealing.specs.Steps.{keysOf}
+use Rattle.dealing.specs.Internal.Steps.{keysOf}
 use Rattle.dealing.specs.Dealing.{randomLength, polynomial, dealtα, dealtβ, dealtWords, dealtTag, dealtShare, dealtShares, Dealt, deal}
 use Rattle.dealing.proofs.Places.{coefficients-inside}
 use Rattle.dealing.proofs.Refusals.{refusal, dealt}

@@ -1,4 +1,4 @@
 pub mod Answer
 pub mod Dealing
 pub mod Examples
-pub mod Steps
+pub mod Internal

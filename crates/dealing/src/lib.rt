@@ -9,7 +9,7 @@ ghost use Rattle.mac.specs.Tag.{tag};
 ghost use Rattle.members.specs.Members.{size, ownPoints};
 ghost use Rattle.shares.specs.Layout.{width};
 ghost use Rattle.dealing.specs.Dealing.{randomLength, dealtα, dealtβ, dealtShare, dealtShares, deal as dealOf};
-ghost use Rattle.dealing.specs.Steps.{wordsAt, tagsOf, keysOf};
+ghost use Rattle.dealing.specs.Internal.Steps.{wordsAt, tagsOf, keysOf};
 ghost use Rattle.dealing.specs.Answer.{answerOf};
 
 // Dealt, or refused with document 01's number.

@@ -15,7 +15,7 @@ use Rattle.polynomial.specs.Polynomial.{interpolate, interpolated}
 use Rattle.members.specs.Members.{size, ownPoints, card}
 use Rattle.members.proofs.Masks.{card-more}
 use Rattle.members.proofs.Words.{size-31}
-use Rattle.decoding.specs.Algorithm.{passed, sound, chosen, candidate, Gathered}
+use Rattle.decoding.specs.Internal.Algorithm.{passed, sound, chosen, candidate, Gathered}
 use Rattle.decoding.specs.Decoding.{need, agreeing, find, Decoded, undecoded, decodedFrom}
 use Rattle.decoding.proofs.Points.{own-distinct, length-own}
 use Rattle.decoding.proofs.Search.{length-interpolated}

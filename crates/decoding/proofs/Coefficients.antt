@@ -16,7 +16,7 @@ use Rattle.field.proofs.Operations.{sum-same, difference-same, product-same}
 use Rattle.polynomial.specs.Polynomial.{eval}
 use Rattle.polynomial.proofs.Evaluation.{eval-zero, linear-step, combine, eval-combine}
 use Rattle.polynomial.proofs.Roots.{Distinct, roots}
-use Rattle.decoding.specs.Algorithm.{raised, mixed}
+use Rattle.decoding.specs.Internal.Algorithm.{raised, mixed}
 
 -- ---- the coefficients from place m on are 0
 

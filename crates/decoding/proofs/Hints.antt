@@ -16,7 +16,7 @@ use Rattle.polynomial.proofs.Interpolation.{length-interpolate, interpolate-wor
 use Rattle.polynomial.proofs.Newton.{interpolated-yes}
 use Rattle.members.specs.Members.{size, ownPoints, card}
 use Rattle.decoding.specs.Decoding.{need, agreeing, Fits, find, decodedFrom}
-use Rattle.decoding.specs.Hint.{foundWith, Guessed}
+use Rattle.decoding.specs.Internal.Hint.{foundWith, Guessed}
 use Rattle.decoding.proofs.Answers.{card-32}
 use Rattle.decoding.proofs.Points.{own-distinct, length-own}
 use Rattle.decoding.proofs.Search.{find-is}

@@ -31,7 +31,7 @@ use Rattle.polynomial.proofs.Roots.{Distinct}
 use Rattle.polynomial.proofs.Interpolation.{interpolate-words}
 use Rattle.members.specs.Members.{size, has, card}
 use Rattle.members.proofs.Listed.{passing, passing-sub, passing-every, passing-below, length-passing}
-use Rattle.decoding.specs.Algorithm.{State, passed, sound, chosen, candidate}
+use Rattle.decoding.specs.Internal.Algorithm.{State, passed, sound, chosen, candidate}
 use Rattle.decoding.specs.Decoding.{need, agreeing, Fits, find}
 use Rattle.decoding.proofs.Points.{pointsOf, passing-points, count-points, at-points}
 use Rattle.decoding.proofs.Unique.{need-twice, need-least, agrees, agrees-member, agrees-meets, card-agreeing, agreeing-same}

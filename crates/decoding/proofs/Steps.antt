@@ -7,7 +7,7 @@ use Prim.Native.Nat.{ℕ, _+_}
 use native.Mathlib.Numerals.{add-one}
 use lib.Dec.{eqb}
 use borrow.Author.Tests.{eq-eqb, ne-eqb, not-true, not-false}
-use Rattle.decoding.specs.Algorithm.{offBy, State, firstUp, secondUp, firstTurn, stepBy, stepped, Advanced}
+use Rattle.decoding.specs.Internal.Algorithm.{offBy, State, firstUp, secondUp, firstTurn, stepBy, stepped, Advanced}
 
 abbrev pub pairs : List ℕ → List ℕ → List ℕ → List ℕ → ℕ → ℕ → State
 pairs n0 e0 n1 e1 a b = record { n0 = n0; e0 = e0; n1 = n1; e1 = e1; a = a; b = b }

@@ -20,7 +20,7 @@ use Rattle.lists.proofs.Tabulate.{all-intro, all-elim}
 use Rattle.polynomial.specs.Polynomial.{value}
 use Rattle.members.specs.Members.{size, ownPoints, has, card}
 use Rattle.members.proofs.Listed.{passing, length-passing, passing-more, passing-prefix}
-use Rattle.decoding.specs.Algorithm.{sound, chosen, Gathered}
+use Rattle.decoding.specs.Internal.Algorithm.{sound, chosen, Gathered}
 use Rattle.decoding.specs.Decoding.{agreeing}
 use Rattle.decoding.proofs.Points.{own-point}
 use Rattle.decoding.proofs.Unique.{agrees, card-agreeing}

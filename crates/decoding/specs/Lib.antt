@@ -1,5 +1,4 @@
-pub mod Algorithm
 pub mod Answer
 pub mod Decoding
 pub mod Examples
-pub mod Hint
+pub mod Internal

@@ -13,9 +13,9 @@ ghost use Rattle.lists.specs.Tabulate.{all};
 ghost use Rattle.field.specs.Field.{isFieldWord};
 ghost use Rattle.members.specs.Members.{size, ownPoints, has, card};
 ghost use Rattle.polynomial.specs.Polynomial.{value};
-ghost use Rattle.decoding.specs.Algorithm.{raised, mixed, offBy, Advanced, firstTurn, stepped, passed, Gathered};
-ghost use Rattle.decoding.specs.Hint.{Guessed};
-ghost use Rattle.decoding.specs.Answer.{answerOf, stateOf};
+ghost use Rattle.decoding.specs.Internal.Algorithm.{raised, mixed, offBy, Advanced, firstTurn, stepped, passed, Gathered, stateOf};
+ghost use Rattle.decoding.specs.Internal.Hint.{Guessed};
+ghost use Rattle.decoding.specs.Answer.{answerOf};
 ghost use Rattle.decoding.specs.Decoding.{need, agreeing, find, undecoded, decodedFrom, decode};
 
 // What decoding answers: the coefficients are in the buffer, or the number of the refusal.

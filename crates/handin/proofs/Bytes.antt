@@ -9,7 +9,7 @@ use borrow.Author.Tests.{eq-eqb, eqb-true, ne-eqb, le-leb, lt-leb}
 use lib.Dec.{eqb}
 use Rattle.lists.proofs.Bools.{same-test}
 use Rattle.handin.specs.Lines.{isDigit}
-use Rattle.handin.specs.Steps.{kindOf, Marks}
+use Rattle.handin.specs.Internal.Steps.{kindOf, Marks}
 use Rattle.handin.specs.declared.Kind.{Kind}
 use Rattle.handin.specs.declared.Kind.the-variants.{Digit, Tab, End, Letter, Other}
 

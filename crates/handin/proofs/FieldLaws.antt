@@ -15,8 +15,8 @@ use lib.ListN.{length, getD, take, drop, set, length-drop}
 use lib.Seq.{length-take-le, getD-take, take-all, take-suc-set, drop-drop}
 use Rattle.lists.proofs.Bools.{test}
 use Rattle.handin.specs.Lines.{parts, decimal, isNumeral, isLetter, numbersOf, lineOf}
-use Rattle.handin.specs.Scanning.{after, FirstEnds, numbersIn, joined}
-use Rattle.handin.specs.Steps.{numeralOf, NextField}
+use Rattle.handin.specs.Internal.Scanning.{after, FirstEnds, numbersIn, joined}
+use Rattle.handin.specs.Internal.Steps.{numeralOf, NextField}
 use Rattle.handin.specs.declared.Field.{Field}
 use Rattle.handin.specs.declared.Field.the-variants as F
 use Rattle.handin.specs.declared.Parsed.{Parsed}

@@ -17,7 +17,7 @@ use Rattle.lists.proofs.Bools.{and-intro, and-left, and-right, test}
 use Rattle.lists.proofs.StoredBlocks.{each-append}
 use Rattle.handin.specs.Lines.{before, parts, decimal, isNumeral, numerals, lineOf}
 use Rattle.handin.specs.Reader.{Share, shares, refused, takeLine, takeLines, readNumbers, readLines}
-use Rattle.handin.specs.Scanning.{free, after, FirstEnds, numbersIn, joined}
+use Rattle.handin.specs.Internal.Scanning.{free, after, FirstEnds, numbersIn, joined}
 
 -- ---- parts
 

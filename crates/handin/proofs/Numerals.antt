@@ -12,7 +12,7 @@ use lib.ListN.{length, getD, drop, drop-of-length-le}
 use lib.Seq.{drop-cons}
 use Rattle.lists.specs.Tabulate.{each}
 use Rattle.handin.specs.Lines.{isDigit, decimal, leadsWithZero, isNumeral}
-use Rattle.handin.specs.Steps.{digitsFrom, numeralOf}
+use Rattle.handin.specs.Internal.Steps.{digitsFrom, numeralOf}
 use Rattle.handin.specs.declared.Parsed.the-variants.{Number, Nothing}
 use Rattle.handin.proofs.Lines.{decimal-ge}
 

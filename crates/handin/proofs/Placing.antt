@@ -19,7 +19,7 @@ use Rattle.members.proofs.Masks.{has-setOf}
 use Rattle.members.proofs.Words.{setOf-more, setOf-none}
 use Rattle.shares.specs.Layout.{width}
 use Rattle.handin.specs.Reader.{Share, capacity, shareOf, isSome, wordsOr, placed}
-use Rattle.handin.specs.Progress.{Holds}
+use Rattle.handin.specs.Internal.Progress.{Holds}
 
 -- the share taken last, and the others
 pub share-same : (s : Share) (taken : List Share) (i : ℕ) → s .member ≡ i → shareOf (s ∷ taken) i ≡ some s

@@ -14,9 +14,9 @@ use Rattle.shares.specs.Layout.{width}
 use Rattle.shares.proofs.Places.{all-fit}
 use Rattle.handin.specs.Lines.{parts}
 use Rattle.handin.specs.Reader.{Share, capacity, Taken, shares, refused, takeLine, takeLines, unread, readFrom}
-use Rattle.handin.specs.Scanning.{after, FirstEnds}
-use Rattle.handin.specs.Progress.{InRange, Holds, Comes}
-use Rattle.handin.specs.Answers.{answerOf, cleared}
+use Rattle.handin.specs.Internal.Scanning.{after, FirstEnds}
+use Rattle.handin.specs.Internal.Progress.{InRange, Holds, Comes, cleared}
+use Rattle.handin.specs.Answers.{answerOf}
 use Rattle.handin.specs.declared.Line.{Line}
 use Rattle.handin.specs.declared.Line.the-variants as L
 use Rattle.handin.specs.declared.Outcome.the-variants as O

@@ -13,8 +13,9 @@ use Rattle.members.specs.Members.{isThreshold}
 use Rattle.shares.specs.Layout.{isLength}
 use Rattle.handin.specs.Lines.{parts, lineOf}
 use Rattle.handin.specs.Reader.{takeLines, unread, readFrom, readNumbers, readLines, read}
-use Rattle.handin.specs.Scanning.{after, FirstEnds}
-use Rattle.handin.specs.Answers.{answerOf, cleared}
+use Rattle.handin.specs.Internal.Scanning.{after, FirstEnds}
+use Rattle.handin.specs.Answers.{answerOf}
+use Rattle.handin.specs.Internal.Progress.{cleared}
 use Rattle.handin.specs.declared.Outcome.{Outcome}
 use Rattle.handin.specs.declared.Outcome.the-variants.{Accepted, Refused}
 use Rattle.handin.proofs.Lines.{parts-some}

@@ -17,7 +17,7 @@ use Rattle.members.specs.Members.{size, isThreshold}
 use Rattle.shares.specs.Layout.{width, isLength}
 use Rattle.handin.specs.Lines.{parts, lineOf}
 use Rattle.handin.specs.Reader.{HandIn, Share, shareOf, isSome, Taken, shares, refused, capacity, takeShare, takeNumbers, takeLine, takeLines, unread, readFrom, readNumbers, readLines, read}
-use Rattle.handin.specs.Progress.{InRange}
+use Rattle.handin.specs.Internal.Progress.{InRange}
 use Rattle.handin.proofs.Taking.{in-range}
 
 -- a refusal's number is not 0, and fits a word

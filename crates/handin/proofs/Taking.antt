@@ -17,7 +17,7 @@ use Rattle.shares.specs.Layout.{isLength, width}
 use Rattle.shares.proofs.Places.{row-inside, all-fit}
 use Rattle.handin.specs.Lines.{lineOf}
 use Rattle.handin.specs.Reader.{Share, shareOf, isSome, shares, takeShare, takeNumbers, takeLine}
-use Rattle.handin.specs.Progress.{InRange, Holds, Comes}
+use Rattle.handin.specs.Internal.Progress.{InRange, Holds, Comes}
 use Rattle.handin.specs.declared.Line.{Line}
 use Rattle.handin.specs.declared.Line.the-variants.{Accepted, Refused}
 use Rattle.handin.proofs.FieldLaws.{part-all}

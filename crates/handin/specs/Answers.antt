@@ -2,7 +2,6 @@
 -- Assumes nothing.
 use Prim.Native.Nat.{ℕ}
 use mathlib.Core.List.{List}
-use lib.ListN.{length, replicate}
 use Rattle.lists.specs.Checks.{refusal}
 use Rattle.handin.specs.Reader.{HandIn}
 use Rattle.handin.specs.declared.Outcome.{Outcome}
@@ -12,8 +11,3 @@ use Rattle.handin.specs.declared.Outcome.the-variants.{Accepted, Refused
 unfoldable pub answerOf : Outcome → List ℕ → HandIn
 answerOf (Accepted t d quorum present) words = record { number = 0; t = t; d = d; quorum = quorum; present = present; words = words }
 answerOf (Refused k) words = record { number = refusal k; t = 0; d = 0; quorum = 0; present = 0; words = words }
-
--- the buffer, filled with 0 on a refusal
-unfoldable pub cleared : Outcome → List ℕ → List ℕ
-cleared (Accepted t d quorum present) words = words
-cleared (Refused k) words = replicate (length words) 0

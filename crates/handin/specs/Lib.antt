@@ -1,8 +1,6 @@
 pub mod Answers
 pub mod Examples
+pub mod Internal
 pub mod Lines
-pub mod Progress
 pub mod Reader
 pub mod Sample
-pub mod Scanning
-pub mod Steps

@@ -11,10 +11,10 @@ ghost use Rattle.lists.specs.Checks.{refusal};
 ghost use Rattle.shares.specs.Layout.{width};
 ghost use Rattle.handin.specs.Lines.{parts, isDigit, lineOf};
 ghost use Rattle.handin.specs.Reader.{Share, capacity, takeNumbers, takeLine, takeLines, unread, readFrom, readNumbers, readLines, read};
-ghost use Rattle.handin.specs.Progress.{InRange, Holds, Comes};
-ghost use Rattle.handin.specs.Scanning.{after, FirstEnds, numbersIn};
-ghost use Rattle.handin.specs.Steps.{kindOf, Marks, digitsFrom, numeralOf, NextField};
-ghost use Rattle.handin.specs.Answers.{answerOf, cleared};
+ghost use Rattle.handin.specs.Internal.Progress.{InRange, Holds, Comes, cleared};
+ghost use Rattle.handin.specs.Internal.Scanning.{after, FirstEnds, numbersIn};
+ghost use Rattle.handin.specs.Internal.Steps.{kindOf, Marks, digitsFrom, numeralOf, NextField};
+ghost use Rattle.handin.specs.Answers.{answerOf};
 
 // What a byte is.
 enum Kind {

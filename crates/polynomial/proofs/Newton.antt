@@ -11,7 +11,7 @@ use lib.Seq.{take-at, drop-at, take-all, take-suc, drop-cons, length-take-le, ta
 use Rattle.lists.proofs.InPlace.{left-cons}
 use borrow.Author.Tests.{eq-eqb, ne-eqb}
 use Rattle.polynomial.specs.Polynomial.{linear, slopes, interpolate, interpolated}
-use Rattle.polynomial.specs.Newton.{slopesFrom, divided, linearFrom, expanded}
+use Rattle.polynomial.specs.Internal.Newton.{slopesFrom, divided, linearFrom, expanded}
 use Rattle.polynomial.proofs.Evaluation.{length-linear}
 use Rattle.polynomial.proofs.Interpolation.{length-slopes}
 

@@ -1,3 +1,3 @@
 pub mod Examples
-pub mod Newton
+pub mod Internal
 pub mod Polynomial

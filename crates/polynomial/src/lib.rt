@@ -3,7 +3,7 @@ ghost use mathlib.Core.Path.{_≡_};
 ghost use Prim.Native.Nat.{_<_};
 ghost use lib.ListN.{length};
 ghost use Rattle.polynomial.specs.Polynomial.{value, interpolated};
-ghost use Rattle.polynomial.specs.Newton.{slopesFrom, divided, linearFrom, expanded};
+ghost use Rattle.polynomial.specs.Internal.Newton.{slopesFrom, divided, linearFrom, expanded};
 
 // The polynomial's value at x, by Horner's rule.
 fn horner(coefficients: &[u16], x: u16) -> u16

@@ -34,8 +34,8 @@ use Rattle.decoding.proofs.Search.{Found, find-found}
 use Rattle.decoding.proofs.Unique.{agreeing-same, need-least}
 use Rattle.decoding.proofs.Words.{wordAt, no-word, by-words}
 use Rattle.reconstruction.specs.Reconstruction.{atZero}
-use Rattle.reconstruction.specs.Room.{Room}
-use Rattle.reconstruction.specs.Steps.{Decodable, meeting, narrowed, storedAt, Worded, agreedOf, Finished}
+use Rattle.reconstruction.specs.Internal.Room.{Room}
+use Rattle.reconstruction.specs.Internal.Steps.{Decodable, meeting, narrowed, storedAt, Worded, agreedOf, Finished}
 
 -- enough of a set are not more than all
 pub need-all : (t s : ℕ) → suc t ≤ s → need t s ≤ s

@@ -29,8 +29,8 @@ use Rattle.decoding.specs.Decoding.{Decoded, nth, find, undecoded, decodedFrom,
 use Rattle.decoding.proofs.Apart.{find-ext}
 use Rattle.decoding.proofs.Points.{own-distinct, length-own, own-point}
 use Rattle.decoding.proofs.Refusals.{judgedAt, accepts}
-use Rattle.reconstruction.specs.Room.{Room}
-use Rattle.reconstruction.specs.Steps.{Decodable, meeting, narrowed, storedAt, Worded}
+use Rattle.reconstruction.specs.Internal.Room.{Room}
+use Rattle.reconstruction.specs.Internal.Steps.{Decodable, meeting, narrowed, storedAt, Worded}
 
 -- no refusal has the number 0
 refusal-pos : (k : ℕ) → refusal k ≡ 0 → ⊥

@@ -19,8 +19,8 @@ use Rattle.decoding.proofs.Answers.{card-32}
 use Rattle.decoding.proofs.Search.{find-found}
 use Rattle.decoding.proofs.Unique.{need-least}
 use Rattle.reconstruction.specs.Reconstruction.{Opened, unopened, required, atZero, openedFrom, finish}
-use Rattle.reconstruction.specs.Room.{Room}
-use Rattle.reconstruction.specs.Steps.{Decodable, agreedOf, Finished}
+use Rattle.reconstruction.specs.Internal.Room.{Room}
+use Rattle.reconstruction.specs.Internal.Steps.{Decodable, agreedOf, Finished}
 use Rattle.reconstruction.specs.Votes.{fieldShare, usable, voteRows}
 use Rattle.reconstruction.proofs.AllWords.{card-0}
 use Rattle.reconstruction.proofs.Meaning.{usable-words, survivor-usable}

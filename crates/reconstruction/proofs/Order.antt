@@ -15,7 +15,7 @@ use Rattle.members.proofs.Words.{firstOf-isSet}
 use Rattle.shares.specs.Layout.{width, word}
 use Rattle.shares.proofs.Places.{all-fit}
 use Rattle.reconstruction.specs.Reconstruction.{Opened, unopened, isQuorum, finish, reconstruct}
-use Rattle.reconstruction.specs.Room.{Room}
+use Rattle.reconstruction.specs.Internal.Room.{Room}
 use Rattle.reconstruction.specs.Votes.{usable, voteRows}
 use Rattle.reconstruction.proofs.Opening.{reconstruct-finishes}
 

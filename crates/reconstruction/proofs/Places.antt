@@ -16,7 +16,7 @@ use Rattle.mac.specs.Tag.{tag}
 use Rattle.members.specs.Members.{size}
 use Rattle.shares.specs.Layout.{word, shareWords, tagWord, keyα, keyβ}
 use Rattle.shares.proofs.Places.{row-inside}
-use Rattle.reconstruction.specs.Room.{Room}
+use Rattle.reconstruction.specs.Internal.Room.{Room}
 use Rattle.reconstruction.specs.Votes.{fieldShare, tagHolds}
 
 -- a part of d words, as the code lends it

@@ -1,6 +1,5 @@
 pub mod Answer
 pub mod Examples
+pub mod Internal
 pub mod Reconstruction
-pub mod Room
-pub mod Steps
 pub mod Votes

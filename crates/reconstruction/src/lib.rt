@@ -10,12 +10,12 @@ ghost use Rattle.polynomial.specs.Polynomial.{value};
 ghost use Rattle.members.specs.Members.{size, ownPoints, has, setOf, card, adding};
 ghost use Rattle.shares.specs.Layout.{word};
 ghost use Rattle.decoding.specs.Decoding.{need, find};
-ghost use Rattle.reconstruction.specs.Steps.{Decodable, Worded, Finished};
+ghost use Rattle.reconstruction.specs.Internal.Steps.{Decodable, Worded, Finished};
 ghost use Rattle.pruning.specs.Pruning.{survivors};
 ghost use Rattle.lists.specs.Checks.{refusal};
 ghost use Rattle.reconstruction.specs.Answer.{answerOf};
 ghost use Rattle.reconstruction.specs.Reconstruction.{unopened, isQuorum, required, finish, reconstruct as reconstructOf};
-ghost use Rattle.reconstruction.specs.Room.{Room};
+ghost use Rattle.reconstruction.specs.Internal.Room.{Room};
 ghost use Rattle.reconstruction.specs.Votes.{fieldShare, usable, tagHolds, accepts, voteRows};
 
 // Opened, with the survivors and those of them that agree; or refused with document 01's number, and with the survivors if that is 16.

@@ -10,7 +10,7 @@ use Rattle.lists.specs.Ascii.{ascii}
 use Rattle.lists.specs.Tabulate.{tab, concat}
 use Rattle.lists.proofs.Blocks.{concat-more}
 use Rattle.report.specs.Report.{digits, field, line, wordLine}
-use Rattle.report.specs.Writing.{Written, lineOfTwo, wordLines}
+use Rattle.report.specs.Internal.Writing.{Written, lineOfTwo, wordLines}
 use Rattle.report.proofs.Digits.{digits-most, at-most-ten}
 use Rattle.report.proofs.Writing.{written-none, written-one, written-then}
 

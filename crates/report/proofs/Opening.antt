@@ -14,7 +14,7 @@ use Rattle.reconstruction.specs.Answer.{answerOf}
 use Rattle.reconstruction.specs.declared.Outcome.{Outcome}
 use Rattle.reconstruction.specs.declared.Outcome.the-variants.{Open, Refused}
 use Rattle.report.specs.Report.{line, wordLine, printOpened}
-use Rattle.report.specs.Writing.{wordLines, opening}
+use Rattle.report.specs.Internal.Writing.{wordLines, opening}
 use Rattle.reconstruction.proofs.Numbers.{opened-fits}
 
 module _ (t d present quorum : ℕ) (words : List ℕ) where

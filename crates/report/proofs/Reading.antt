@@ -12,13 +12,13 @@ use Rattle.members.specs.Members.{size}
 use Rattle.shares.specs.Layout.{width}
 use Rattle.reconstruction.specs.Reconstruction.{reconstruct}
 use Rattle.handin.specs.Reader.{HandIn, capacity, read}
-use Rattle.handin.specs.Progress.{InRange}
+use Rattle.handin.specs.Internal.Progress.{InRange}
 use Rattle.handin.specs.Answers.{answerOf}
 use Rattle.handin.specs.declared.Outcome.{Outcome}
 use Rattle.handin.specs.declared.Outcome.the-variants.{Accepted, Refused}
 use Rattle.handin.proofs.Sound.{sound}
 use Rattle.report.specs.Report.{line, printOpened, printRead, report}
-use Rattle.report.specs.Writing.{opening}
+use Rattle.report.specs.Internal.Writing.{opening}
 
 module _ (text words : List ℕ) {len : ℕ} {r : Outcome} (full : len ≡ capacity) (answers : answerOf r words ≡ read text len) where
   answered : (o : Outcome) → r ≡ o → answerOf o words ≡ read text capacity

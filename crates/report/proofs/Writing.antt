@@ -8,7 +8,8 @@ use native.Mathlib.Omega.{arith}
 use lib.ListN.{length, set, drop, length-append}
 use lib.Seq.{sets, sets-eq, set-comm, length-sets}
 use Rattle.lists.proofs.Stores.{sets-append}
-use Rattle.report.specs.Writing.{Written, Reported}
+use Rattle.report.specs.Report.{Reported}
+use Rattle.report.specs.Internal.Writing.{Written}
 
 -- the last byte may be stored first
 pub sets-last : (l xs : List ℕ) (y at : ℕ) → sets l at (xs ++ (y ∷ [])) ≡ sets (set l (at + length xs) y) at xs

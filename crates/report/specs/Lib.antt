@@ -1,3 +1,3 @@
 pub mod Examples
+pub mod Internal
 pub mod Report
-pub mod Writing

@@ -2,10 +2,11 @@
 -- Assumes nothing.
 use Prim.Native.Nat.{ℕ, zero, suc, _+_, _*_, _/_, _%_}
 use Prim.Native.String.{String}
+use mathlib.Core.Path.{_≡_}
 use mathlib.Core.Bool.{Bool, true, false}
 use mathlib.Core.List.{List, [], _∷_, _++_, map}
 use lib.Dec.{ltb, eqb}
-use lib.ListN.{take, getD}
+use lib.ListN.{length, take, drop, getD}
 use Rattle.lists.specs.Ascii.{ascii}
 use Rattle.lists.specs.Tabulate.{tab, concat}
 use Rattle.members.specs.Members.{size}
@@ -49,3 +50,8 @@ printRead h =
 -- what the program prints for a text
 unfoldable pub report : List ℕ → List ℕ
 report text = printRead (read text capacity)
+
+-- what the program prints stands at the front of the buffer, the rest of it is as before, and the answer is how many bytes are printed
+pub record Reported (text before after : List ℕ) (count : ℕ) : Type 0 where
+  pub printed : after ≡ report text ++ drop count before
+  pub long : count ≡ length (report text)

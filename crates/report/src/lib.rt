@@ -6,9 +6,9 @@ ghost use lib.ListN.{length, take};
 ghost use Rattle.members.specs.Members.{size};
 ghost use Rattle.shares.specs.Layout.{width};
 ghost use Rattle.handin.specs.Reader.{capacity};
-ghost use Rattle.handin.specs.Progress.{InRange};
-ghost use Rattle.report.specs.Report.{digits, field, line, report};
-ghost use Rattle.report.specs.Writing.{Written, lineOfTwo, wordLines, opening, Reported};
+ghost use Rattle.handin.specs.Internal.Progress.{InRange};
+ghost use Rattle.report.specs.Report.{digits, field, line, report, Reported};
+ghost use Rattle.report.specs.Internal.Writing.{Written, lineOfTwo, wordLines, opening};
 
 // How many digits a number has.
 fn count_digits(n: u32) -> usize

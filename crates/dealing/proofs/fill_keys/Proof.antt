@@ -9,7 +9,7 @@ use lib.ListN.{getD, set, length-set}
 use Rattle.lists.proofs.Stores.{Joined, joined-first, joined-length, joined-next, joined-last}
 use Rattle.members.specs.Members.{size}
 use Rattle.dealing.specs.Dealing.{dealtα, dealtβ}
-use Rattle.dealing.specs.Steps.{keysOf}
+use Rattle.dealing.specs.Internal.Steps.{keysOf}
 use Rattle.dealing.proofs.Places.{key-inside}
 use Rattle.dealing.proofs.fill_keys.Statement.{statement}
 use Rattle.dealing.proofs.fill_keys.Tie as tie

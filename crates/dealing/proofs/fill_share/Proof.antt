@@ -15,7 +15,7 @@ use Rattle.lists.proofs.Stores.{sets-then, sets-read}
 use Rattle.members.specs.Members.{size, ownPoints}
 use Rattle.shares.specs.Layout.{width}
 use Rattle.dealing.specs.Dealing.{dealtWords, dealtTag, dealtShare}
-use Rattle.dealing.specs.Steps.{wordsAt, tagsOf, keysOf}
+use Rattle.dealing.specs.Internal.Steps.{wordsAt, tagsOf, keysOf}
 use Rattle.dealing.proofs.Laws.{length-words, length-tags}
 use Rattle.members.proofs.Words.{size-31}
 use Rattle.dealing.proofs.Places.{share-inside}

@@ -11,7 +11,7 @@ use Rattle.lists.proofs.Stores.{part-kept, Filled, filled-first, filled-length,
 use Rattle.mac.specs.Tag.{tag}
 use Rattle.members.specs.Members.{size}
 use Rattle.dealing.specs.Dealing.{dealtα, dealtβ}
-use Rattle.dealing.specs.Steps.{tagsOf}
+use Rattle.dealing.specs.Internal.Steps.{tagsOf}
 use Rattle.dealing.proofs.fill_tags.Statement.{statement}
 use Rattle.dealing.proofs.fill_tags.Tie as tie
 

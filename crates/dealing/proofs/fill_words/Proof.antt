@@ -8,7 +8,7 @@ use lib.ListN.{length, getD, take, drop, set}
 use Rattle.lists.proofs.Stores.{Filled, filled-first, filled-length, filled-next, filled-last}
 use Rattle.polynomial.specs.Polynomial.{value}
 use Rattle.dealing.specs.Dealing.{randomLength, polynomial}
-use Rattle.dealing.specs.Steps.{wordsAt}
+use Rattle.dealing.specs.Internal.Steps.{wordsAt}
 use Rattle.dealing.proofs.Places.{coefficients-inside}
 use Rattle.dealing.proofs.fill_words.Statement.{statement}
 use Rattle.dealing.proofs.fill_words.Tie as tie

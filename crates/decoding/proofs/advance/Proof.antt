@@ -5,7 +5,7 @@ use mathlib.Core.List.{List}
 use Prim.Native.Nat.{ℕ}
 use borrow.Author.Needs.{needs}
 use Rattle.field.specs.Field.{difference}
-use Rattle.decoding.specs.Algorithm.{mixed}
+use Rattle.decoding.specs.Internal.Algorithm.{mixed}
 use borrow.Author.Needs.{needs}
 use Rattle.decoding.proofs.advance.Statement.{statement}
 use Rattle.decoding.proofs.advance.Tie as tie

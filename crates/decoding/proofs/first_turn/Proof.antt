@@ -6,7 +6,7 @@ use Prim.Native.Nat.{ℕ, _+_}
 use borrow.Author.Needs.{needs}
 use borrow.Author.Tests.{eq-eqb, ne-eqb}
 use lib.Dec.{leb}
-use Rattle.decoding.specs.Algorithm.{firstTurn}
+use Rattle.decoding.specs.Internal.Algorithm.{firstTurn}
 use borrow.Author.Needs.{needs}
 use Rattle.decoding.proofs.first_turn.Statement.{statement}
 use Rattle.decoding.proofs.first_turn.Tie as tie

@@ -9,7 +9,7 @@ use lib.ListN.{length, getD, take, drop, set, length-set, drop-of-length-le}
 use lib.Seq.{take-all}
 use Rattle.lists.proofs.InPlace.{done-set, left-set, left-cons}
 use Rattle.field.specs.Field.{sum, product}
-use Rattle.decoding.specs.Algorithm.{mixed}
+use Rattle.decoding.specs.Internal.Algorithm.{mixed}
 use Rattle.decoding.proofs.mix.Statement.{statement}
 use Rattle.decoding.proofs.mix.Tie as tie
 

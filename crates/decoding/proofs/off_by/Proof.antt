@@ -3,7 +3,7 @@
 use mathlib.Core.Path.{ap₂, _∙_, ap}
 use borrow.Author.Needs.{needs}
 use Rattle.field.specs.Field.{difference, product}
-use Rattle.decoding.specs.Algorithm.{offBy}
+use Rattle.decoding.specs.Internal.Algorithm.{offBy}
 use borrow.Author.Needs.{needs}
 use Rattle.decoding.proofs.off_by.Statement.{statement}
 use Rattle.decoding.proofs.off_by.Tie as tie

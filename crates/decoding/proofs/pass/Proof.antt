@@ -6,7 +6,7 @@ use Prim.Native.Nat.{ℕ, _-_, _<_}
 use native.Mathlib.Omega.{arith}
 use lib.ListN.{length, replicate}
 use Rattle.members.proofs.Words.{size-of}
-use Rattle.decoding.specs.Answer.{stateOf}
+use Rattle.decoding.specs.Internal.Algorithm.{stateOf}
 use Rattle.decoding.proofs.Passes.{Turn, first, next, holds, degrees-32, below-32, last}
 use Rattle.decoding.proofs.pass.Statement.{statement}
 use Rattle.decoding.proofs.pass.Tie as tie

@@ -9,7 +9,7 @@ use lib.ListN.{length, getD, take, drop, set, length-set, drop-of-length-le}
 use lib.Seq.{take-all}
 use Rattle.lists.proofs.InPlace.{done-set, left-set, left-cons}
 use Rattle.field.specs.Field.{sum, difference, product}
-use Rattle.decoding.specs.Algorithm.{raised}
+use Rattle.decoding.specs.Internal.Algorithm.{raised}
 use Rattle.decoding.proofs.raise.Statement.{statement}
 use Rattle.decoding.proofs.raise.Tie as tie
 

@@ -6,7 +6,7 @@ use Prim.Native.Nat.{_≤_, _-_}
 use native.Mathlib.Omega.{arith}
 use borrow.Author.Tests.{not-true, not-false}
 use lib.ListN.{length, drop}
-use Rattle.handin.specs.Steps.{digitsFrom}
+use Rattle.handin.specs.Internal.Steps.{digitsFrom}
 use Rattle.lists.proofs.Checks.{within-low}
 use Rattle.handin.proofs.Numerals.{digits-bad, digits-step, digits-over, digits-done}
 use Rattle.handin.proofs.digits.Statement.{statement}

@@ -5,7 +5,7 @@ use Prim.Native.Nat.{_≤_, _-_}
 use native.Mathlib.Omega.{arith}
 use borrow.Author.Needs.{needs}
 use lib.ListN.{length, length-set}
-use Rattle.handin.specs.Scanning.{after, numbersIn}
+use Rattle.handin.specs.Internal.Scanning.{after, numbersIn}
 use Rattle.handin.proofs.FieldLaws.{part-all, Stored, fields-start, fields-end, fields-bad, fields-good, field-inside}
 use Rattle.handin.proofs.fields.Statement.{statement}
 use Rattle.handin.proofs.fields.Tie as tie

@@ -6,7 +6,7 @@ use mathlib.Core.List.{List}
 use Prim.Native.Nat.{ℕ}
 use borrow.Author.Tests.{not-true, not-false}
 use lib.ListN.{length}
-use Rattle.handin.specs.Scanning.{after, numbersIn}
+use Rattle.handin.specs.Internal.Scanning.{after, numbersIn}
 use Rattle.handin.proofs.FieldLaws.{part-all, line-long, line-other, line-fields}
 use borrow.Author.Needs.{needs}
 use Rattle.handin.proofs.numbers.Statement.{statement}

@@ -6,7 +6,7 @@ use native.Mathlib.Omega.{arith}
 use borrow.Author.Needs.{needs}
 use lib.ListN.{getD}
 use Rattle.lists.proofs.Bools.{fails, passes}
-use Rattle.handin.specs.Progress.{InRange}
+use Rattle.handin.specs.Internal.Progress.{InRange}
 use Rattle.handin.proofs.Taking.{in-range, width-is, scratch-length}
 use Rattle.handin.proofs.Reading.{first-t, first-d, first-in}
 use Rattle.handin.proofs.read_numbers.Statement.{statement}

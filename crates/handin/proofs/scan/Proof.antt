@@ -5,7 +5,7 @@ use mathlib.Core.Bool.{true}
 use Prim.Native.Nat.{_≤_, _-_}
 use native.Mathlib.Omega.{arith}
 use lib.ListN.{length, take}
-use Rattle.handin.specs.Scanning.{free}
+use Rattle.handin.specs.Internal.Scanning.{free}
 use Rattle.handin.proofs.Lines.{free-none, free-more, ends-at, ends-last}
 use Rattle.handin.proofs.scan.Statement.{statement}
 use Rattle.handin.proofs.scan.Tie as tie

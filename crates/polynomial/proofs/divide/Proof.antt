@@ -4,7 +4,7 @@ use mathlib.Core.List.{List}
 use Prim.Native.Nat.{_-_}
 use native.Mathlib.Omega.{arith}
 use lib.ListN.{length}
-use Rattle.polynomial.specs.Newton.{divided}
+use Rattle.polynomial.specs.Internal.Newton.{divided}
 use Rattle.polynomial.proofs.Newton.{Divided, divided-first, divided-next, divided-last}
 use Rattle.polynomial.proofs.divide.Statement.{statement}
 use Rattle.polynomial.proofs.divide.Tie as tie

@@ -4,7 +4,7 @@ use mathlib.Core.List.{List}
 use Prim.Native.Nat.{_-_}
 use native.Mathlib.Omega.{arith}
 use lib.ListN.{length}
-use Rattle.polynomial.specs.Newton.{expanded}
+use Rattle.polynomial.specs.Internal.Newton.{expanded}
 use Rattle.polynomial.proofs.Newton.{Expanded, expanded-first, expanded-next, expanded-last}
 use Rattle.polynomial.proofs.expand.Statement.{statement}
 use Rattle.polynomial.proofs.expand.Tie as tie

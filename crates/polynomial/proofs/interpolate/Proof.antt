@@ -3,7 +3,7 @@
 use mathlib.Core.Path.{_≡_, sym, ap, _∙_}
 use mathlib.Core.List.{List}
 use Prim.Native.Nat.{ℕ}
-use Rattle.polynomial.specs.Newton.{expanded}
+use Rattle.polynomial.specs.Internal.Newton.{expanded}
 use Rattle.polynomial.proofs.Newton.{interpolate-is, interpolated-no, interpolated-yes}
 use borrow.Author.Needs.{needs}
 use Rattle.polynomial.proofs.interpolate.Statement.{statement}

@@ -11,7 +11,7 @@ use Rattle.lists.proofs.InPlace.{done-set, left-set, read-set, left-cons}
 use Rattle.field.specs.Field.{prime, sum, difference, product}
 use Rattle.field.proofs.Congruence.{_≈_, same-refl, same-sym, same-trans, eq-same, reduced, _⊕_, _⊗_}
 use Rattle.field.proofs.Operations.{mod-word, once}
-use Rattle.polynomial.specs.Newton.{linearFrom}
+use Rattle.polynomial.specs.Internal.Newton.{linearFrom}
 use Rattle.polynomial.specs.Polynomial.{linear}
 use Rattle.polynomial.proofs.linear.Statement.{statement}
 use Rattle.polynomial.proofs.linear.Tie as tie

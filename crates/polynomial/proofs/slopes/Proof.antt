@@ -8,7 +8,7 @@ use lib.ListN.{length, getD, take, drop, set, length-set, drop-of-length-le}
 use lib.Seq.{take-all}
 use Rattle.lists.proofs.InPlace.{done-set, left-set, left-cons}
 use Rattle.field.specs.Field.{difference, product, inverse}
-use Rattle.polynomial.specs.Newton.{slopesFrom}
+use Rattle.polynomial.specs.Internal.Newton.{slopesFrom}
 use Rattle.polynomial.specs.Polynomial.{slopes}
 use Rattle.polynomial.proofs.slopes.Statement.{statement}
 use Rattle.polynomial.proofs.slopes.Tie as tie

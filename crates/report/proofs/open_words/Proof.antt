@@ -8,7 +8,7 @@ use lib.Seq.{length-take-le}
 use Rattle.members.specs.Members.{size}
 use Rattle.shares.specs.Layout.{width}
 use Rattle.shares.proofs.Places.{all-fit}
-use Rattle.report.specs.Writing.{opening}
+use Rattle.report.specs.Internal.Writing.{opening}
 use Rattle.report.proofs.Writing.{written-as}
 use borrow.Author.Needs.{needs}
 use Rattle.report.proofs.open_words.Statement.{statement}

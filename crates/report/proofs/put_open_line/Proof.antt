@@ -3,7 +3,7 @@
 use native.Mathlib.Omega.{arith}
 use Rattle.lists.specs.Ascii.{ascii}
 use Rattle.report.specs.Report.{line}
-use Rattle.report.specs.Writing.{lineOfTwo}
+use Rattle.report.specs.Internal.Writing.{lineOfTwo}
 use Rattle.report.proofs.Lines.{field-short}
 use borrow.Author.Needs.{needs}
 use Rattle.report.proofs.put_open_line.Statement.{statement}

@@ -8,6 +8,8 @@ use Rattle.lists.specs.Checks.{refusal}
 use Rattle.members.specs.Members.{size, setOf}
 use Rattle.shares.specs.Layout.{width}
 use Rattle.handin.specs.Reader.{Share, shareOf, isSome, wordsOr, Taken, shares, refused, placed}
+use Rattle.handin.specs.declared.Outcome.{Outcome}
+use Rattle.handin.specs.declared.Outcome.the-variants as outcome
 use Rattle.handin.specs.declared.Line.{Line}
 use Rattle.handin.specs.declared.Line.the-variants.{Accepted, Refused}
 
@@ -28,3 +30,8 @@ pub record Holds (t d : ℕ) (taken : List Share) (present : ℕ) (words : List 
 unfoldable pub Comes : ℕ → ℕ → Taken → Line → List ℕ → Type 0
 Comes t d result (Accepted present) words = (now : List Share) × (result ≡ shares now) × Holds t d now present words
 Comes t d result (Refused k) words = result ≡ refused (refusal k)
+
+-- the buffer, filled with 0 on a refusal
+unfoldable pub cleared : Outcome → List ℕ → List ℕ
+cleared (outcome.Accepted t d quorum present) words = words
+cleared (outcome.Refused k) words = replicate (length words) 0

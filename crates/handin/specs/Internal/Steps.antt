@@ -10,7 +10,7 @@ use lib.Dec.{eqb, leb}
 use lib.ListN.{length, drop}
 use Rattle.lists.specs.Tabulate.{each}
 use Rattle.handin.specs.Lines.{isDigit, decimal, isNumeral}
-use Rattle.handin.specs.Scanning.{after, numbersIn, joined}
+use Rattle.handin.specs.Internal.Scanning.{after, numbersIn, joined}
 use Rattle.handin.specs.declared.Field.{Field}
 use Rattle.handin.specs.declared.Field.the-variants as F
 use Rattle.handin.specs.declared.Kind.{Kind}

@@ -1,13 +1,13 @@
--- Bytes written into a buffer at a place, and the answer of the call that prints.
+-- Bytes written into a buffer at a place.
 -- Assumes nothing.
 use Prim.Native.Nat.{ℕ, _+_, _≤_}
 use mathlib.Core.Path.{_≡_}
 use mathlib.Core.List.{List, [], _∷_, _++_, map}
-use lib.ListN.{length, drop}
+use lib.ListN.{length}
 use lib.Seq.{sets}
 use Rattle.lists.specs.Tabulate.{tab, concat}
 use Rattle.reconstruction.specs.Reconstruction.{reconstruct}
-use Rattle.report.specs.Report.{field, wordLine, printOpened, report}
+use Rattle.report.specs.Report.{field, wordLine, printOpened}
 
 -- the buffer has the bytes at a place, they fit, and the place after them is the answer
 pub record Written (before : List ℕ) (at : ℕ) (bytes after : List ℕ) (end : ℕ) : Type 0 where
@@ -26,8 +26,3 @@ wordLines secret = concat (tab (length secret) (wordLine secret))
 -- what the answer of opening prints
 unfoldable pub opening : ℕ → ℕ → ℕ → ℕ → List ℕ → List ℕ
 opening t d present quorum words = printOpened d (reconstruct t d present quorum words)
-
--- what the program prints stands at the front of the buffer, the rest of it is as before, and the answer is how many bytes are printed
-pub record Reported (text before after : List ℕ) (count : ℕ) : Type 0 where
-  pub printed : after ≡ report text ++ drop count before
-  pub long : count ≡ length (report text)

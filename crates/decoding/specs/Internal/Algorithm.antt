@@ -11,6 +11,7 @@ use Rattle.lists.specs.Tabulate.{tab, count, keep}
 use Rattle.field.specs.Field.{sum, difference, product}
 use Rattle.polynomial.specs.Polynomial.{value, interpolate}
 use Rattle.members.specs.Members.{size, has}
+use Rattle.decoding.specs.declared.Degrees.{Degrees}
 
 -- c + (X − x) · f without its last coefficient, which is 0 wherever this is used
 unfoldable pub raised : ℕ → ℕ → List ℕ → List ℕ
@@ -104,3 +105,7 @@ pub record Advanced (x dp dq : ℕ) (np ep nq eq np′ ep′ nq′ eq′ : List 
   pub raised-e : ep′ ≡ raised x 0 ep
   pub freed-n : nq′ ≡ mixed dp nq (difference 0 dq) np
   pub freed-e : eq′ ≡ mixed dp eq (difference 0 dq) ep
+
+-- the two pairs, from the four buffers and the degrees
+abbrev pub stateOf : List ℕ → List ℕ → List ℕ → List ℕ → Degrees → State
+stateOf n0 e0 n1 e1 d = record { n0 = n0; e0 = e0; n1 = n1; e1 = e1; a = d .first; b = d .second }

@@ -1,0 +1,4 @@
+-- What only contracts of private functions cite: how the code works, not what it answers.
+pub mod Progress
+pub mod Scanning
+pub mod Steps
