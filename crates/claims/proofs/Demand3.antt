@@ -7,14 +7,15 @@ use Prim.Native.Nat.{ℕ, suc, _/_, _≤_, _<_}
 use native.Mathlib.Nat.{le-trans, le-of-eq}
 use lib.Dec.{eqb}
 use lib.ListN.{length, getD}
-use borrow.Author.Tests.{eq-eqb, eqb-true}
-use Rattle.lists.specs.Tabulate.{all, count}
+use borrow.Author.Tests.{eq-eqb, eqb-true, ltb-true}
+use Rattle.lists.specs.Tabulate.{all, count, each}
 use Rattle.lists.proofs.Bools.{and-intro, and-left, and-right}
 use Rattle.lists.proofs.Checks.{within-intro}
 use Rattle.lists.proofs.Count.{count-mono, count-split}
-use Rattle.lists.proofs.Every.{Every, every-at}
+use Rattle.lists.proofs.Blocks.{each-every}
+use Rattle.lists.proofs.Every.{Every, every-at, every-map}
 use Rattle.lists.proofs.Tabulate.{tab-ext, tab-getD, all-intro, all-elim}
-use Rattle.field.specs.Field.{prime}
+use Rattle.field.specs.Field.{prime, isFieldWord}
 use Rattle.polynomial.specs.Polynomial.{value}
 use Rattle.polynomial.proofs.Roots.{Distinct}
 use Rattle.members.specs.Members.{size, ownPoints, has, card}
@@ -29,9 +30,11 @@ use Rattle.dealing.specs.Dealing.{Dealt, polynomial, dealtShares}
 use Rattle.dealing.proofs.Laws.{polynomial-degree, polynomial-zero, word-value, InRange, accepted-in-range, accepted-shares}
 use Rattle.reconstruction.specs.Votes.{usable, voteRows}
 use Rattle.reconstruction.specs.Reconstruction.{Opened, required, atZero, finish, reconstruct}
-use Rattle.reconstruction.proofs.Opening.{Answers, opened-answers, finish-opens, reconstruct-finishes}
+use Rattle.reconstruction.proofs.Opening.{finish-opens, reconstruct-finishes}
 use Rattle.claims.specs.Demands.{Dealing, HandedIn, AsDealt, altered, Sound, Demand3}
+use Rattle.claims.specs.General.{Answers, DealtAnywhere}
 use Rattle.claims.proofs.Honest.{survives, many-survive, some-survive}
+use Rattle.claims.proofs.Opening.{points-distinct, opened-answers}
 
 -- the dealt polynomials have the secret at 0
 pub dealt-zero : (t : ℕ) (secret random : List ℕ) → Every (λ a. a < prime) secret → atZero (length secret) (polynomial t secret random) ≡ secret
@@ -116,6 +119,16 @@ module _ (xs : List ℕ) (distinct : Distinct xs) (t : ℕ) (long : length xs �
             let r = o .answers (polynomial t secret random) (dealt-fits xs t secret random words (a .survivors) all-in few) in
             (r .0, r .1 ∙ dealt-zero t secret random secret-words);
       }
+
+-- field words, from the test of each
+field-words : (words : List ℕ) → each isFieldWord words ≡ true → Every (λ a. a < prime) words
+field-words words h = every-map (λ a e. ltb-true a prime e) (each-every isFieldWord words h)
+
+pub dealt-anywhere : DealtAnywhere
+unfolding DealtAnywhere
+dealt-anywhere xs t present quorum secret random words points secret-words random-words met honest many as-dealt =
+    sound xs (points-distinct points) t (points .long) secret random (field-words secret secret-words) (field-words random random-words)
+    present quorum words met honest many as-dealt
 
 -- what an accepted dealing says: t and d are in range, and the dealt words are the definition's
 module _ (t : ℕ) (secret random dealt : List ℕ) (dealing : Dealing t secret random dealt) where

@@ -1,16 +1,15 @@
 -- Members whose shares are handed in as dealt are usable, accept one another, and survive, for any points.
 -- Assumes nothing.
 use mathlib.Core.Path.{_≡_, refl, sym, ap, ap₂, _∙_, subst}
-use mathlib.Core.Logic.{_⊎_, inl, inr}
-use mathlib.Core.Bool.{Bool, true, false, _&&_, _||_}
+use mathlib.Core.Logic.{inl, inr}
+use mathlib.Core.Bool.{true, _&&_, _||_}
 use mathlib.Core.List.{List}
-use Prim.Native.Nat.{ℕ, suc, _^_, _≤_, _<_}
+use Prim.Native.Nat.{ℕ, suc, _≤_, _<_}
 use native.Mathlib.Nat.{le-trans, le-of-eq}
 use native.Mathlib.Omega.{arith}
 use lib.Dec.{eqb}
 use lib.ListN.{length}
 use borrow.Author.Tests.{eq-eqb, eqb-true}
-use Rattle.lists.specs.Tabulate.{count}
 use Rattle.lists.proofs.Bools.{clash, and-intro, or-left, or-yes, or-elim}
 use Rattle.lists.proofs.Count.{count-mono}
 use Rattle.lists.proofs.Every.{Every}
@@ -18,9 +17,9 @@ use Rattle.field.specs.Field.{prime}
 use Rattle.mac.specs.Tag.{tag}
 use Rattle.members.specs.Members.{size, has, setOf, card}
 use Rattle.members.proofs.Masks.{has-setOf, setOf-lt, has-zero, card-mono, card-some}
-use Rattle.shares.specs.Layout.{width, word, shareWords, tagWord, keyα, keyβ}
+use Rattle.shares.specs.Layout.{shareWords, tagWord, keyα, keyβ}
 use Rattle.shares.proofs.Same.{same-words, same-tag, same-α, same-β}
-use Rattle.pruning.specs.Pruning.{Closed, Largest, votes, survivors}
+use Rattle.pruning.specs.Pruning.{Closed, survivors}
 use Rattle.pruning.proofs.Largest.{survivors-largest}
 use Rattle.dealing.specs.Dealing.{dealtShares}
 use Rattle.dealing.proofs.Laws.{tag-holds, word-field}

@@ -1,11 +1,11 @@
 -- The instances of demand 3, by computing.
 -- Assumes nothing.
-use Prim.Native.Nat.{ℕ, _<_, _*_}
-use mathlib.Core.Path.{_≡_, refl, sym}
+use Prim.Native.Nat.{ℕ, _<_}
+use mathlib.Core.Path.{_≡_, refl}
 use mathlib.Core.Bool.{Bool, true, _&&_, _||_, not}
 use mathlib.Core.List.{List}
 use lib.Dec.{eqb, lit<, lit≤}
-use lib.ListN.{length, replicate}
+use lib.ListN.{replicate}
 use borrow.Author.Tests.{eqb-true}
 use Rattle.lists.specs.Tabulate.{tab, all, count, keep, each, first, concat, choose}
 use Rattle.lists.proofs.Bools.{and-left, and-right}

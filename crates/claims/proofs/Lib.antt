@@ -4,3 +4,5 @@ pub mod Demand3
 pub mod Examples
 pub mod Honest
 pub mod Instances
+pub mod Opening
+pub mod Rules

@@ -1,1 +1,7 @@
-// The demands and document 01's examples, as statements over the definitions. No code.
+// What is claimed of the definitions: the demands, document 01's examples, and what it says of its rules.
+ghost use Rattle.claims.specs.Claims.{Claims};
+
+// The claims hold. It does nothing when called: that it is proved is what counts.
+pub fn hold()
+    ensures { λ r. ⌜ Claims ⌝ }
+{}

@@ -45,9 +45,9 @@ module _ (xs : List ℕ) (n : ℕ) (long : length xs ≡ n) (distinct : Distinct
   pub at-points : {P : ℕ → Type 0} → ((i : ℕ) → i < n → p i ≡ true → P (getD xs i 0)) → Every P (pointsOf xs (passing n p))
   at-points h = every-mapped (λ i. getD xs i 0) (every-both h (passing-below n p) (passing-every n p))
 
--- ---- the members' own points
+-- ---- points given by a rule, and the members' own
 
-distinct-tab : (n : ℕ) (f : ℕ → ℕ) → ((i j : ℕ) → i < n → j < n → f i ≈ f j → i ≡ j) → Distinct (tab n f)
+pub distinct-tab : (n : ℕ) (f : ℕ → ℕ) → ((i j : ℕ) → i < n → j < n → f i ≈ f j → i ≡ j) → Distinct (tab n f)
 unfolding tab
 distinct-tab zero f h = distinct-none
 distinct-tab (suc n) f h =

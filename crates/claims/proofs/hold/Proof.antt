@@ -1,0 +1,26 @@
+-- Each claim has its proof.
+-- Assumes nothing.
+use Rattle.claims.proofs.Demand2.{demand2}
+use Rattle.claims.proofs.Demand3.{demand3, dealt-anywhere}
+use Rattle.claims.proofs.Examples.{examples, corners}
+use Rattle.claims.proofs.Instances.{instances}
+use Rattle.claims.proofs.Opening.{opening}
+use Rattle.claims.proofs.Rules.{rules}
+use Rattle.claims.proofs.hold.Statement.{statement}
+use Rattle.claims.proofs.hold.Tie as tie
+
+pub hold-spec : {M : Type 1} → statement M
+hold-spec =
+    tie.close
+    (tie.spec
+    (λ c.
+    record {
+      demand2 = demand2;
+      demand3 = demand3;
+      instances = instances;
+      opening = opening;
+      dealt-anywhere = dealt-anywhere;
+      rules = rules;
+      examples = examples;
+      corners = corners;
+    }))

@@ -1,0 +1,20 @@
+-- All that is claimed of the definitions, in one record. The function `claims::hold` is checked for it, so that no claim stands without its proof.
+use Rattle.claims.specs.Demands.{Demand2, Demand3}
+use Rattle.claims.specs.Examples.{Examples, Corners}
+use Rattle.claims.specs.General.{Opening, DealtAnywhere}
+use Rattle.claims.specs.Instances.{Instances}
+use Rattle.claims.specs.Rules.{Rules}
+
+pub record Claims : Type 0 where
+  pub demand2 : Demand2
+  pub demand3 : Demand3
+  -- demand 3 is not empty, and says no more than is so
+  pub instances : Instances
+  -- demand 3 for any distinct points
+  pub opening : Opening
+  pub dealt-anywhere : DealtAnywhere
+  -- what document 01 says of its rules
+  pub rules : Rules
+  -- C1 to C14, and the corners
+  pub examples : Examples
+  pub corners : Corners
