@@ -1,15 +1,33 @@
 /* Splitting a secret of 16-bit words over 2t + 1 members, and opening it from what they hand in.
 
    Every call returns, whatever it is handed, and its answer is proved to be the one that the
-   project's definitions give: docs/CLAIMS.md says which. A call answers 0 when it is done, and else
-   the number of its first check that fails. There is no other state, no heap and no output.
+   project's definitions give: docs/RULES.md says it in words, docs/CLAIMS.md where it is proved. A
+   call answers 0 when it is done, and else the number of its first check that fails. There is no
+   other state, no heap and no output.
 
    A pointer is not null, is aligned, and points to as many elements as the length after it says,
-   also where that is 0. What a call writes overlaps nothing else that it is handed. That is all that
-   a caller has to see to.
+   also where that is 0; where no length follows, it points to one. What a call writes overlaps
+   nothing else that it is handed. That is all that a caller has to see to.
 
    t is 1 to 15, n is 2t + 1, and members are numbered 1 to n. A set of members is a mask: member i
-   has the value 2 to the power i - 1. A field word is 0 to 65520. A secret has d words, d is 1 to 64. */
+   has the value 2 to the power i - 1. A field word is 0 to 65520. A secret has d words, d is 1 to 64.
+
+   0 from rutzebam_open does not say that this is the secret that was dealt. It is, where survivors
+   with share words as dealt are at least t + 1 more than survivors with altered ones. Otherwise, from
+   t = 2 on, t members who know keys and shares of others can make it open to another secret, beside
+   t + 1 shares as dealt. So open once and compare before the readings are deleted, ask for a large
+   quorum, and look at the masks: where k survivors agree, another secret takes k - t altered shares or
+   more. After 16 do not try again with fewer members: t + 1 survivors always open, to something.
+
+   For firmware. The figures are those of the archive for x86-64.
+   - Stack: RUTZEBAM_STACK_BYTES and the figures by call, below. There is no recursion. Up to 128
+     bytes of it are below the stack pointer (the red zone of the System V ABI), so an interrupt that
+     uses the same stack has to leave them alone.
+   - Memory: no heap, and no data that is written: code and constants only. The archive needs memcpy
+     and memset, and nothing else. It uses SSE2 registers.
+   - Calls are reentrant, and safe in threads that share no buffer that one of them writes.
+   - Time depends on the values: nothing here is constant-time.
+   - Nothing is wiped: words of shares and secrets stay behind on the stack, and may in registers. */
 #ifndef RUTZEBAM_H
 #define RUTZEBAM_H
 
@@ -19,6 +37,11 @@
 #ifdef __cplusplus
 extern "C" {
 #endif
+
+#define RUTZEBAM_VERSION_MAJOR 1
+#define RUTZEBAM_VERSION_MINOR 0
+#define RUTZEBAM_VERSION_PATCH 0
+#define RUTZEBAM_VERSION "1.0.0"
 
 /* How many words a share has: d share words, n tags and n keys of two words. */
 #define RUTZEBAM_SHARE_WORDS(t, d) ((d) + 3 * (2 * (t) + 1))
@@ -30,6 +53,43 @@ extern "C" {
 #define RUTZEBAM_READ_WORDS 4867
 /* The longest text that rutzebam_read takes, in bytes. */
 #define RUTZEBAM_TEXT_BYTES 40000
+
+/* What a call answers: done, or the first check that fails. docs/RULES.md says what to do about each. */
+#define RUTZEBAM_OK 0
+#define RUTZEBAM_BAD_THRESHOLD 1            /* t is not 1 to 15 */
+#define RUTZEBAM_BAD_SECRET_LENGTH 2        /* the secret's length is not 1 to 64 */
+#define RUTZEBAM_BAD_RANDOM_LENGTH 3        /* not RUTZEBAM_RANDOM_WORDS(t, d) random words */
+#define RUTZEBAM_BAD_SHARES_LENGTH 4        /* not RUTZEBAM_SHARES_WORDS(t, d) words to deal into */
+#define RUTZEBAM_BAD_SECRET_WORD 5          /* a secret word above 65520 */
+#define RUTZEBAM_BAD_RANDOM_WORD 6          /* a random word above 65520 */
+#define RUTZEBAM_BAD_ROWS_LENGTH 10         /* not n rows */
+#define RUTZEBAM_BAD_INPUT_LENGTH 11        /* not RUTZEBAM_SHARES_WORDS(t, d) words to open; not n values */
+#define RUTZEBAM_MEMBER_BEYOND_N 12         /* a mask has a member beyond n */
+#define RUTZEBAM_BAD_QUORUM 13              /* the quorum is neither 0 nor t + 1 to n */
+#define RUTZEBAM_QUORUM_NOT_MET 14          /* fewer usable members than the quorum asks for */
+#define RUTZEBAM_NO_SURVIVORS 15            /* the votes leave nobody */
+#define RUTZEBAM_TOO_FEW_AGREE 16           /* no polynomials that enough members agree with */
+#define RUTZEBAM_SET_TOO_SMALL 17           /* fewer than t + 1 members to decode from */
+#define RUTZEBAM_BAD_VALUE 18               /* a value of a member of the set above 65520 */
+#define RUTZEBAM_BAD_COEFFICIENTS_LENGTH 19 /* not t + 1 words for coefficients */
+#define RUTZEBAM_TEXT_TOO_LONG 21           /* more than RUTZEBAM_TEXT_BYTES bytes */
+#define RUTZEBAM_BAD_FIRST_LINE 22          /* the first line is no D line */
+#define RUTZEBAM_BAD_LINE 23                /* a further line is no P line */
+#define RUTZEBAM_BAD_LINE_MEMBER 24         /* a P line's member is not 1 to n, or was met before */
+#define RUTZEBAM_BAD_BUFFER_LENGTH 25       /* not RUTZEBAM_READ_WORDS words to read into */
+
+/* How many bytes of stack a call takes at most, with its return address and the arguments on the
+   stack, without what memcpy and memset take themselves. In brackets the sum of the frames along the
+   deepest chain of calls, in the code that `rt staticlib` writes for x86-64; the figures are those
+   sums rounded up to a multiple of 256. examples/stack_use.c looks that no call takes more. */
+#define RUTZEBAM_DEAL_STACK_BYTES 512    /* (472) */
+#define RUTZEBAM_OPEN_STACK_BYTES 1536   /* (1400) */
+#define RUTZEBAM_PRUNE_STACK_BYTES 256   /* (32) */
+#define RUTZEBAM_DECODE_STACK_BYTES 1024 /* (984) */
+#define RUTZEBAM_TAG_STACK_BYTES 256     /* (40) */
+#define RUTZEBAM_READ_STACK_BYTES 768    /* (536) */
+/* The most of them. */
+#define RUTZEBAM_STACK_BYTES 1536
 
 /* Deals the secret to n members, with random words that the caller draws afresh and keeps to itself.
    1: t. 2: the secret's length. 3: how many random words. 4: how many words for shares.
@@ -44,31 +104,34 @@ uint16_t rutzebam_deal(size_t t,
    members that the votes leave, `agreeing` those of them whose words lie on the polynomials found.
    1: t. 2: the secret's length. 11: how many words of shares. 12: a member beyond n is present.
    13: the quorum is neither 0 nor t + 1 to n. 14: the quorum is not met. 15: no survivors.
-   16: too few survivors agree. On a refusal every word of the secret is 65535 and both masks are 0,
-   but for 16, which gives the survivors. */
+   16: too few survivors agree. On a refusal every word of the secret is 65535, at whatever length it
+   has, and both masks are 0, but for 16, which gives the survivors. */
 uint16_t rutzebam_open(size_t t, uint32_t present, uint16_t quorum,
                        const uint16_t *shares, size_t shares_len,
                        uint16_t *secret, size_t secret_len,
                        uint32_t *survivors, uint32_t *agreeing);
 
-/* The survivors of votes: row i is the mask of those who accept member i + 1.
-   1: t. 10: not n rows. 12: a member beyond n. On a refusal the survivors are 0. */
+/* The survivors of votes: rows[i - 1] is the mask of those who accept member i. 0 survivors are an
+   answer too. 1: t. 10: not n rows. 12: a member beyond n, in any row. On a refusal the survivors
+   are 0. */
 uint16_t rutzebam_prune(size_t t, const uint32_t *rows, size_t rows_len, uint32_t *survivors);
 
 /* The polynomial of degree at most t that enough members of the set have their values on, as t + 1
-   coefficients, power 0 first. 1: t. 11: not n values. 19: not t + 1 coefficients. 12: a member
-   beyond n. 17: fewer than t + 1 members. 18: a value above 65520. 16: no such polynomial.
-   On a refusal every coefficient is 65535. */
+   coefficients, power 0 first; values[i - 1] is member i's. 1: t. 11: not n values. 19: not t + 1
+   coefficients. 12: a member beyond n. 17: fewer than t + 1 members. 18: a value above 65520, of a
+   member of the set. 16: no such polynomial. On a refusal every coefficient is 65535, at whatever
+   length there is. */
 uint16_t rutzebam_decode(size_t t, const uint16_t *values, size_t values_len, uint32_t set,
                          uint16_t *coefficients, size_t coefficients_len);
 
-/* The tag of words under the key (alpha, beta). It refuses nothing: words are taken modulo 65521. */
+/* The tag of words under the key (alpha, beta). It refuses nothing: what is above 65520 is taken
+   modulo 65521, and the tag of no words is beta so taken. */
 uint16_t rutzebam_tag(uint16_t alpha, uint16_t beta, const uint16_t *words, size_t words_len);
 
 /* Reads hand-in text. `words` gets the shares in member order, then zeros; what rutzebam_open takes
    is its first RUTZEBAM_SHARES_WORDS(*t, *d) words, with *quorum and *present.
    25: not 4867 words. 21: more than 40000 bytes. 22: the first line. 23: a line's shape.
-   24: a line's member. On a refusal every word and every number is 0. */
+   24: a line's member. On a refusal every word, at whatever length there is, and every number is 0. */
 uint16_t rutzebam_read(const uint8_t *text, size_t text_len,
                        uint16_t *words, size_t words_len,
                        size_t *t, size_t *d, uint16_t *quorum, uint32_t *present);
