@@ -3,7 +3,7 @@
 use std::fmt;
 
 use crate::library;
-use crate::reference::decoding::{decode, Way};
+use crate::reference::decoding::{Way, decode};
 use crate::reference::pruning::prune;
 use crate::reference::sharing::{deal, open, tag};
 use crate::reference::text::read;

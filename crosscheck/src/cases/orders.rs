@@ -4,7 +4,7 @@ use super::Round;
 use crate::calls::{Call, Deal, Decode, Open, Prune};
 use crate::random::Random;
 use crate::reference::field::mul;
-use crate::reference::sharing::{random_words, Layout};
+use crate::reference::sharing::{Layout, random_words};
 
 /// A call's refusals in their order, and the pairs that cannot stand together.
 pub struct Order {

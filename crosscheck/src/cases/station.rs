@@ -3,7 +3,7 @@
 use super::Round;
 use crate::calls::{Deal, Open, Opened};
 use crate::random::Random;
-use crate::reference::sharing::{random_words, same_share, usable, Layout};
+use crate::reference::sharing::{Layout, random_words, same_share, usable};
 use crate::reference::{everybody, members};
 
 /// How the keys of a dealing are made.

@@ -1,10 +1,10 @@
 //! The rules' examples C1 to C14 against the other implementation.
 
-use super::decoding::{decode, Way};
+use super::decoding::{Way, decode};
 use super::field::{inverse, mul};
 use super::pruning::prune;
-use super::sharing::{deal, open, tag, Opening};
-use super::text::{read, Reading, ROOM};
+use super::sharing::{Opening, deal, open, tag};
+use super::text::{ROOM, Reading, read};
 
 const TEXT: &str = "D\t1\t1\t0\n\
     P\t1\t253\t254\t507\t760\t1\t1\t1\t2\t1\t3\n\
