@@ -60,7 +60,7 @@ pub fn required() -> Vec<String> {
         names.extend(order.pairs().into_iter().map(|pair| order.outcome(pair)));
     }
     names.extend([0, 21, 22, 23, 24, 25].map(|number| format!("read: {number}")));
-    names.extend(ORDERS.iter().map(|name| format!("read: {name}")));
+    names.extend(ORDERS.iter().map(|(name, ..)| format!("read: {name}")));
     names.extend(ENDS.iter().map(|name| format!("read: {name}")));
     for name in DAMAGES {
         names.push(format!("read: first line, {name}"));
