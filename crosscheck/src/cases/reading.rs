@@ -1,30 +1,10 @@
 //! Hand-in texts: good ones in any order, and every kind of damage to lines and numerals.
 
-use super::Round;
+use super::page::{Page, numeral};
+use super::{Round, program};
 use crate::calls::{Read, ReadAnswer, Text};
 use crate::random::Random;
-use crate::reference::sharing::Layout;
 use crate::reference::text::{LONGEST, ROOM};
-
-/// A text as lines of fields, and what follows the last line end.
-#[derive(Clone)]
-struct Page {
-    layout: Layout,
-    lines: Vec<Vec<Vec<u8>>>,
-    tail: Vec<u8>,
-}
-
-impl Page {
-    fn bytes(&self) -> Vec<u8> {
-        let mut text = Vec::new();
-        for line in &self.lines {
-            text.extend(line.join(&b'\t'));
-            text.push(b'\n');
-        }
-        text.extend(&self.tail);
-        text
-    }
-}
 
 /// A reason to refuse a text. Lines are counted back from the last one.
 #[derive(Clone, Copy)]
@@ -85,10 +65,6 @@ pub fn all(round: &mut Round) {
     orders(round);
 }
 
-fn numeral(number: usize) -> Vec<u8> {
-    number.to_string().into_bytes()
-}
-
 /// A word of any count of digits, each border included.
 fn some_numeral(random: &mut Random) -> Vec<u8> {
     let any = random.word() as usize;
@@ -101,23 +77,16 @@ fn some_numeral(random: &mut Random) -> Vec<u8> {
 
 /// A good text with lines for some members.
 fn page(random: &mut Random, t: usize, d: usize) -> Page {
-    let layout = Layout::new(t, d);
-    let mut order: Vec<usize> = (1..=layout.n).collect();
+    let mut page = Page::new(t, d, some_numeral(random));
+    let (n, width) = (page.layout.n, page.layout.width());
+    let mut order: Vec<usize> = (1..=n).collect();
     random.shuffle(&mut order);
-    let count = random.within(0, layout.n);
-    order.truncate(random.pick(&[count, count, layout.n, 1]));
-    let first = vec![b"D".to_vec(), numeral(t), numeral(d), some_numeral(random)];
-    let mut lines = vec![first];
+    let count = random.within(0, n);
+    order.truncate(random.pick(&[count, count, n, 1]));
     for i in order {
-        let mut line = vec![b"P".to_vec(), numeral(i)];
-        line.extend((0..layout.width()).map(|_| some_numeral(random)));
-        lines.push(line);
+        page.add(i, (0..width).map(|_| some_numeral(random)));
     }
-    Page {
-        layout,
-        lines,
-        tail: Vec::new(),
-    }
+    page
 }
 
 fn some_page(round: &mut Round) -> Page {
@@ -138,6 +107,7 @@ fn page_with(round: &mut Round, count: usize) -> Page {
     }
 }
 
+/// Reads by both sides. Now and then the program reads it too.
 fn submit(round: &mut Round, kind: &str, text: Vec<u8>, room: usize) -> (Read, ReadAnswer) {
     let call = Read {
         text: Text(text),
@@ -148,6 +118,9 @@ fn submit(round: &mut Round, kind: &str, text: Vec<u8>, room: usize) -> (Read, R
         present: round.random.mask(),
     };
     let answer = round.ledger.compare(kind, &call);
+    if room == ROOM {
+        program::try_text(round, kind, &call.text.0);
+    }
     (call, answer)
 }
 
@@ -405,7 +378,7 @@ fn edits(round: &mut Round) {
 
 /// Texts as long as allowed and longer.
 fn long(round: &mut Round) {
-    for size in [40000, 40001, 40002, 66000] {
+    for size in [40000, 40001, 40002, 66000, 200000] {
         let start = some_page(round).bytes();
         let mut text = match round.random.below(3) {
             0 => Vec::new(),
@@ -440,14 +413,18 @@ fn lengths(round: &mut Round) {
 }
 
 /// A page with faults, and the length of the buffer that it is read into.
-struct Faulty {
-    page: Page,
+pub struct Faulty {
+    pub page: Page,
     room: usize,
 }
 
 impl Faulty {
+    pub fn new(page: Page) -> Faulty {
+        Faulty { page, room: ROOM }
+    }
+
     /// Adds the fault, and leaves the others in place.
-    fn spoil(&mut self, random: &mut Random, fault: Fault) {
+    pub fn spoil(&mut self, random: &mut Random, fault: Fault) {
         let last = self.page.lines.len() - 1;
         match fault {
             Fault::Room => self.room = random.pick(&[4866, 4868]),
@@ -481,8 +458,7 @@ impl Faulty {
 /// For each two faults: a good text gets the second one, and then the first one too.
 fn orders(round: &mut Round) {
     for (name, first, second) in ORDERS {
-        let page = page_with(round, 2);
-        let mut text = Faulty { page, room: ROOM };
+        let mut text = Faulty::new(page_with(round, 2));
         let alone = text.spoil_and_expect(round, *second);
         let before = text.spoil_and_expect(round, *first);
         if alone && before {

@@ -2,6 +2,7 @@
 
 use super::decoding::{Way, decode};
 use super::field::{inverse, mul};
+use super::program::printed;
 use super::pruning::prune;
 use super::sharing::{Opening, deal, open, tag};
 use super::text::{ROOM, Reading, read};
@@ -113,4 +114,17 @@ fn decoding_refuses_in_order() {
     assert_eq!(room, [65535; 2]);
     assert_eq!(decode(1, &[5, 5, 65535], 3, &mut room, Way::Subsets), 0);
     assert_eq!(room, [5, 0]);
+}
+
+#[test]
+fn the_program_prints() {
+    assert_eq!(printed(TEXT.as_bytes()), "OPEN\t3\t3\nWORD\t1\t250\n");
+    assert_eq!(printed(b""), "REFUSED\t22\t0\n");
+    assert_eq!(printed(b"D\t1\t1\t0\n"), "REFUSED\t14\t0\n");
+    // C10
+    let mut text = "D\t1\t1\t0\n".to_string();
+    for (i, word) in [(1, 253), (2, 256), (3, 300)] {
+        text += &format!("P\t{i}\t{word}{}\n", "\t0".repeat(9));
+    }
+    assert_eq!(printed(text.as_bytes()), "REFUSED\t16\t7\n");
 }
