@@ -1,23 +1,32 @@
-//! The library's calls and their answers as plain data, and how each side answers them.
+//! The library's calls, the program's texts and their answers as plain data, and how each side
+//! answers them.
 
 use std::fmt;
 
 use crate::library;
-use crate::reference::decoding::{decode, Way};
+use crate::program;
+use crate::reference::decoding::{Way, decode};
+use crate::reference::program::printed;
 use crate::reference::pruning::prune;
 use crate::reference::sharing::{deal, open, tag};
 use crate::reference::text::read;
 
-/// What the library did beside its answer: a lent input changed, or a word beside a buffer.
+/// What is wrong beside the answer: a lent input changed, or a word beside a buffer.
 pub type Damage = Vec<&'static str>;
+
+/// The two things tested.
+pub const LIBRARY: &str = "library";
+pub const PROGRAM: &str = "program";
 
 /// A call with all that it is lent, each buffer as it is before the call.
 pub trait Call: fmt::Debug {
     type Answer: fmt::Debug + PartialEq;
     const NAME: &'static str;
+    /// What answers it.
+    const TESTED: &'static str = LIBRARY;
 
     fn by_reference(&self) -> Self::Answer;
-    fn by_library(&self) -> (Self::Answer, Damage);
+    fn under_test(&self) -> (Self::Answer, Damage);
     /// The refusal number, where the call has one.
     fn number(answer: &Self::Answer) -> Option<u16>;
     /// The other implementation's second way, where it has one and it is not too long.
@@ -50,7 +59,7 @@ impl Call for Deal {
         Dealt { number, shares }
     }
 
-    fn by_library(&self) -> (Dealt, Damage) {
+    fn under_test(&self) -> (Dealt, Damage) {
         library::deal(self)
     }
 
@@ -106,7 +115,7 @@ impl Call for Open {
         self.by(Way::Elimination)
     }
 
-    fn by_library(&self) -> (Opened, Damage) {
+    fn under_test(&self) -> (Opened, Damage) {
         library::open(self)
     }
 
@@ -146,7 +155,7 @@ impl Call for Prune {
         Pruned { number, survivors }
     }
 
-    fn by_library(&self) -> (Pruned, Damage) {
+    fn under_test(&self) -> (Pruned, Damage) {
         library::prune(self)
     }
 
@@ -188,7 +197,7 @@ impl Call for Decode {
         self.by(Way::Elimination)
     }
 
-    fn by_library(&self) -> (Decoded, Damage) {
+    fn under_test(&self) -> (Decoded, Damage) {
         library::decode(self)
     }
 
@@ -216,7 +225,7 @@ impl Call for Tag {
         tag(self.alpha, self.beta, &self.words)
     }
 
-    fn by_library(&self) -> (u16, Damage) {
+    fn under_test(&self) -> (u16, Damage) {
         library::tag(self)
     }
 
@@ -226,8 +235,26 @@ impl Call for Tag {
 }
 
 /// A text, shown with its tabs and line ends written out.
-#[derive(Clone)]
+#[derive(Clone, PartialEq, Eq)]
 pub struct Text(pub Vec<u8>);
+
+impl Text {
+    /// The fields of the first line.
+    pub fn first_line(&self) -> Vec<&[u8]> {
+        let mut lines = self.0.split(|byte| *byte == b'\n');
+        let first = lines.next().unwrap_or_default();
+        first.split(|byte| *byte == b'\t').collect()
+    }
+
+    /// The number of what the program printed: 0 if it opened.
+    pub fn number(&self) -> Option<u16> {
+        match self.first_line()[..] {
+            [b"OPEN", ..] => Some(0),
+            [b"REFUSED", number, ..] => str::from_utf8(number).ok()?.parse().ok(),
+            _ => None,
+        }
+    }
+}
 
 impl fmt::Debug for Text {
     fn fmt(&self, f: &mut fmt::Formatter<'_>) -> fmt::Result {
@@ -272,11 +299,36 @@ impl Call for Read {
         }
     }
 
-    fn by_library(&self) -> (ReadAnswer, Damage) {
+    fn under_test(&self) -> (ReadAnswer, Damage) {
         library::read(self)
     }
 
     fn number(answer: &ReadAnswer) -> Option<u16> {
         Some(answer.number)
+    }
+}
+
+/// A text for the program `opening`, whose answer is what it prints.
+#[derive(Clone, Debug)]
+pub struct Print {
+    pub text: Text,
+}
+
+impl Call for Print {
+    type Answer = Text;
+    const NAME: &'static str = PROGRAM;
+    const TESTED: &'static str = PROGRAM;
+
+    fn by_reference(&self) -> Text {
+        Text(printed(&self.text.0).into_bytes())
+    }
+
+    fn under_test(&self) -> (Text, Damage) {
+        let (output, damage) = program::run(&self.text.0);
+        (Text(output), damage)
+    }
+
+    fn number(answer: &Text) -> Option<u16> {
+        answer.number()
     }
 }

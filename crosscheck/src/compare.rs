@@ -11,7 +11,8 @@ use crate::calls::Call;
 pub struct Ledger {
     /// The round under way, from which it can be run again.
     pub seed: u64,
-    pub calls: u64,
+    /// How many calls were compared, for each thing tested.
+    compared: BTreeMap<&'static str, u64>,
     pub difference: Option<String>,
     pub seen: BTreeMap<String, u64>,
 }
@@ -22,25 +23,32 @@ impl Ledger {
         *self.seen.entry(outcome.into()).or_insert(0) += 1;
     }
 
+    /// How many calls of the thing tested were compared.
+    pub fn compared(&self, tested: &str) -> u64 {
+        self.compared.get(tested).copied().unwrap_or(0)
+    }
+
     /// Has both sides answer, compares all of both answers, and gives the answer.
     pub fn compare<C: Call>(&mut self, kind: &str, call: &C) -> C::Answer {
-        self.calls += 1;
+        let count = self.compared.entry(C::TESTED).or_insert(0);
+        *count += 1;
+        let patient = count.is_multiple_of(8);
         let answer = call.by_reference();
-        let (given, damage) = call.by_library();
+        let (given, damage) = call.under_test();
         if given != answer {
             self.differ(
                 kind,
                 call,
                 "the answers differ",
-                ("library", &given),
+                (C::TESTED, &given),
                 &answer,
             );
         }
         if !damage.is_empty() {
-            let what = format!("the library changed {damage:?}");
-            self.differ(kind, call, &what, ("library", &given), &answer);
+            let what = format!("changed: {damage:?}");
+            self.differ(kind, call, &what, (C::TESTED, &given), &answer);
         }
-        if let Some(searched) = call.second_way(self.calls.is_multiple_of(8)) {
+        if let Some(searched) = call.second_way(patient) {
             if searched != answer {
                 let searched = ("search", &searched);
                 self.differ(kind, call, "the search differs", searched, &answer);
@@ -65,8 +73,8 @@ impl Ledger {
         answer: &C::Answer,
     ) {
         if !holds {
-            let given = call.by_library().0;
-            self.differ(kind, call, what, ("library", &given), answer);
+            let given = call.under_test().0;
+            self.differ(kind, call, what, (C::TESTED, &given), answer);
         }
     }
 

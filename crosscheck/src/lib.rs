@@ -1,5 +1,5 @@
-//! A check of the sharing library from outside: another implementation of the same rules, the
-//! library's calls, generated cases, and the comparison of the two.
+//! A check of the sharing library and its program from outside: another implementation of the same
+//! rules, the library's calls, the program, generated cases, and the comparison.
 
 #![deny(unsafe_code)]
 
@@ -9,5 +9,6 @@ pub mod compare;
 #[allow(unsafe_code)]
 pub mod library;
 pub mod outcomes;
+pub mod program;
 pub mod random;
 pub mod reference;

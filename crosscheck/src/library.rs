@@ -5,7 +5,7 @@ use crate::calls::{
     Damage, Deal, Dealt, Decode, Decoded, Open, Opened, Prune, Pruned, Read, ReadAnswer, Tag,
 };
 
-extern "C" {
+unsafe extern "C" {
     fn rutzebam_deal(
         t: usize,
         secret: *const u16,

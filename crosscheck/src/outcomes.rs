@@ -51,6 +51,46 @@ const CLASSES: &[&str] = &[
     "read: 40001 bytes",
 ];
 
+/// What the program must have been given, and what it must have come to.
+const PROGRAM: &[&str] = &[
+    "honest",
+    "honest, each size",
+    "one too many in the last word",
+    "quorums",
+    "errors around half the surplus",
+    "a second polynomial",
+    "scattered alterations",
+    "one member a word",
+    "some struck, some surviving",
+    "any votes",
+    "accusers",
+    "colluders",
+    "words above 65520",
+    "garbage for absent members",
+    "one vote short",
+    "a few words changed",
+    "noise",
+    "a hand-in, its text spoilt",
+    "good text",
+    "longest good text",
+    "first line spoilt",
+    "share line spoilt",
+    "wrong member",
+    "ends of a text",
+    "edited text",
+    "long text",
+    "two faults",
+    "empty",
+    "no line end",
+    "40000 bytes",
+    "40001 bytes",
+    "200000 bytes",
+    "16 with survivors",
+    "opened, a survivor does not agree",
+    "opened, lines in another order",
+    "opened, t = 15 and d = 64",
+];
+
 /// The name of every outcome that must come up at least once.
 pub fn required() -> Vec<String> {
     let mut names: Vec<String> = CLASSES.iter().map(|name| name.to_string()).collect();
@@ -60,12 +100,15 @@ pub fn required() -> Vec<String> {
         names.extend(order.pairs().into_iter().map(|pair| order.outcome(pair)));
     }
     names.extend([0, 21, 22, 23, 24, 25].map(|number| format!("read: {number}")));
-    names.extend(ORDERS.iter().map(|name| format!("read: {name}")));
+    names.extend(ORDERS.iter().map(|(name, ..)| format!("read: {name}")));
     names.extend(ENDS.iter().map(|name| format!("read: {name}")));
     for name in DAMAGES {
         names.push(format!("read: first line, {name}"));
         names.push(format!("read: share line, {name}"));
     }
+    names.extend(PROGRAM.iter().map(|name| format!("program: {name}")));
+    let numbers = [0, 13, 14, 15, 16, 21, 22, 23, 24];
+    names.extend(numbers.map(|number| format!("program: {number}")));
     names.extend(sizes());
     names
 }

@@ -11,8 +11,8 @@ use crosscheck::library::plain;
 use crosscheck::random::Random;
 use crosscheck::reference::decoding::Way;
 use crosscheck::reference::everybody;
-use crosscheck::reference::sharing::{deal, open, random_words, Layout};
-use crosscheck::reference::text::{read, ROOM};
+use crosscheck::reference::sharing::{Layout, deal, open, random_words};
+use crosscheck::reference::text::{ROOM, read};
 
 const T: usize = 15;
 const D: usize = 64;
@@ -201,7 +201,9 @@ fn print_table(rows: &[Row], library: &[Times], reference: &[Times], pass: &Time
         pass.least()
     );
     println!();
-    println!("| what | library, median | library, least | reference, median | reference, least | library / reference | library / plain pass |");
+    println!(
+        "| what | library, median | library, least | reference, median | reference, least | library / reference | library / plain pass |"
+    );
     println!("|---|---:|---:|---:|---:|---:|---:|");
     for (place, row) in rows.iter().enumerate() {
         let (mine, theirs) = (&library[place], &reference[place]);

@@ -1,12 +1,14 @@
-//! Compares the library with the other implementation on generated calls.
+//! Compares the library and the program with the other implementation on generated calls and
+//! texts.
 //!
-//! `differential [--seed S] [--cases N | --seconds T]` runs rounds S, S + 1, .. until N calls are
-//! compared or T seconds are over. A round named by a difference runs again with
+//! `differential [--seed S] [--cases N | --seconds T]` runs rounds S, S + 1, .. until N calls of the
+//! library are compared or T seconds are over. A round named by a difference runs again with
 //! `--seed ROUND --cases 1`.
 
 use std::process::ExitCode;
 use std::time::{Duration, Instant};
 
+use crosscheck::calls::{LIBRARY, PROGRAM};
 use crosscheck::cases::round;
 use crosscheck::compare::Ledger;
 use crosscheck::outcomes::required;
@@ -45,7 +47,7 @@ fn run(seed: u64, end: End) -> Ledger {
     for number in seed.. {
         round(number, &mut ledger);
         let over = match end {
-            End::Calls(count) => ledger.calls >= count,
+            End::Calls(count) => ledger.compared(LIBRARY) >= count,
             End::At(time) => start.elapsed() >= time,
         };
         if over || ledger.difference.is_some() {
@@ -82,7 +84,8 @@ fn main() -> ExitCode {
         return ExitCode::from(1);
     }
     let complete = report(&ledger);
-    println!("{} calls compared, 0 differences", ledger.calls);
+    let (calls, texts) = (ledger.compared(LIBRARY), ledger.compared(PROGRAM));
+    println!("{calls} calls and {texts} texts for the program compared, 0 differences");
     match complete {
         true => ExitCode::SUCCESS,
         false => ExitCode::from(1),

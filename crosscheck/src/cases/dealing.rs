@@ -1,9 +1,9 @@
 //! Dealings: all kinds of random words, and buffers of any length.
 
-use super::station::{Keys, Station};
 use super::Round;
+use super::station::{Keys, Station};
 use crate::calls::Deal;
-use crate::reference::sharing::{random_words, Layout};
+use crate::reference::sharing::{Layout, random_words};
 
 pub fn all(round: &mut Round) {
     let (t, d) = (round.t, round.d);

@@ -4,6 +4,8 @@ pub mod dealing;
 pub mod decoding;
 pub mod opening;
 pub mod orders;
+pub mod page;
+pub mod program;
 pub mod pruning;
 pub mod reading;
 pub mod station;
@@ -31,6 +33,7 @@ const GENERATORS: &[Generator] = &[
     tags::all,
     reading::all,
     orders::all,
+    program::all,
 ];
 
 /// Runs all generators for one seed.

@@ -1,12 +1,12 @@
 //! Openings: honest, lossy and hostile hand-ins, and buffers of any length.
 
-use super::station::{Handed, Keys, Station};
 use super::Round;
+use super::station::{Handed, Keys, Station};
 use crate::calls::Open;
 use crate::random::Random;
-use crate::reference::decoding::{polynomial_through, Way};
+use crate::reference::decoding::{Way, polynomial_through};
 use crate::reference::field::{add, mul, sub};
-use crate::reference::sharing::{points, Layout};
+use crate::reference::sharing::{Layout, points};
 use crate::reference::{everybody, holds, members, need};
 
 type Kind = fn(&mut Round);

@@ -1,49 +1,46 @@
-//! The order of the refusals: for each two faults of a call, an input that has both.
+//! The order of the refusals. For each two faults of a call: a good input gets the second fault,
+//! and is refused for it; then it gets the first fault too, and is refused for that one.
 
 use super::Round;
 use crate::calls::{Call, Deal, Decode, Open, Prune};
 use crate::random::Random;
 use crate::reference::field::mul;
-use crate::reference::sharing::{random_words, Layout};
+use crate::reference::sharing::{Layout, random_words};
+use crate::reference::{LARGEST, everybody};
 
-/// A call's refusals in their order, and the pairs that cannot stand together.
+/// A call's refusals in their order. Any two of them can stand together.
 pub struct Order {
     pub call: &'static str,
     pub numbers: &'static [u16],
-    pub apart: &'static [(u16, u16)],
 }
 
 pub const DEAL: Order = Order {
     call: "deal",
     numbers: &[1, 2, 3, 4, 5, 6],
-    apart: &[],
 };
 pub const OPEN: Order = Order {
     call: "open",
     numbers: &[1, 2, 11, 12, 13, 14, 15, 16],
-    apart: &[(15, 16)],
 };
 pub const PRUNE: Order = Order {
     call: "prune",
     numbers: &[1, 10, 12],
-    apart: &[],
 };
 pub const DECODE: Order = Order {
     call: "decode",
     numbers: &[1, 11, 19, 12, 17, 18, 16],
-    apart: &[(17, 16)],
 };
 
 impl Order {
-    /// All pairs that can stand together, each in order.
+    /// All pairs, each in order.
     pub fn pairs(&self) -> Vec<(u16, u16)> {
         let mut pairs = Vec::new();
         for (place, first) in self.numbers.iter().enumerate() {
-            for second in &self.numbers[place + 1..] {
-                if !self.apart.contains(&(*first, *second)) {
-                    pairs.push((*first, *second));
-                }
-            }
+            pairs.extend(
+                self.numbers[place + 1..]
+                    .iter()
+                    .map(|second| (*first, *second)),
+            );
         }
         pairs
     }
@@ -54,89 +51,71 @@ impl Order {
     }
 }
 
-pub fn all(round: &mut Round) {
-    each(round, &DEAL, deal_with);
-    each(round, &OPEN, open_with);
-    each(round, &PRUNE, prune_with);
-    each(round, &DECODE, decode_with);
+/// A call that the orders are tried on.
+trait Faulty: Call {
+    /// An input that is accepted.
+    fn good(random: &mut Random) -> Self;
+    /// Adds the fault. Any fault that the input has already comes later in the order, and stays.
+    fn spoil(&mut self, random: &mut Random, fault: u16);
 }
 
-/// Every single fault and every pair.
-fn each<C: Call>(round: &mut Round, order: &Order, make: fn(&mut Random, &[u16]) -> C) {
+pub fn all(round: &mut Round) {
+    each::<Deal>(round, &DEAL);
+    each::<Open>(round, &OPEN);
+    each::<Prune>(round, &PRUNE);
+    each::<Decode>(round, &DECODE);
+}
+
+/// No fault, every single fault and every pair.
+fn each<C: Faulty>(round: &mut Round, order: &Order) {
+    let good = C::good(&mut round.random);
+    expect(round, &good, 0);
     for number in order.numbers {
-        let call = make(&mut round.random, &[*number]);
-        expect(round, &call, *number);
+        let mut call = C::good(&mut round.random);
+        spoil_and_expect(round, &mut call, *number);
     }
     for pair in order.pairs() {
-        let call = make(&mut round.random, &[pair.0, pair.1]);
-        expect(round, &call, pair.0);
-        round.ledger.note(order.outcome(pair));
+        let mut call = C::good(&mut round.random);
+        let alone = spoil_and_expect(round, &mut call, pair.1);
+        let before = spoil_and_expect(round, &mut call, pair.0);
+        if alone && before {
+            round.ledger.note(order.outcome(pair));
+        }
     }
-    let call = make(&mut round.random, &[]);
-    expect(round, &call, 0);
 }
 
-fn expect<C: Call>(round: &mut Round, call: &C, number: u16) {
+/// Adds the fault; true if the call is then refused for it.
+fn spoil_and_expect<C: Faulty>(round: &mut Round, call: &mut C, fault: u16) -> bool {
+    call.spoil(&mut round.random, fault);
+    expect(round, call, fault)
+}
+
+fn expect<C: Call>(round: &mut Round, call: &C, number: u16) -> bool {
     let kind = "order of refusals";
     let answer = round.ledger.compare(kind, call);
     let right = C::number(&answer) == Some(number);
     let what = format!("{number} expected");
     round.ledger.demand(right, kind, call, &what, &answer);
+    right
 }
 
 /// One more or one fewer.
-fn off(random: &mut Random, count: usize) -> usize {
-    match random.coin() && count > 0 {
-        true => count - 1,
-        false => count + 1,
-    }
+fn change_length<T: Copy>(random: &mut Random, list: &mut Vec<T>, filler: T) {
+    let length = match random.coin() {
+        true => list.len() - 1,
+        false => list.len() + 1,
+    };
+    list.resize(length, filler);
 }
 
-/// Puts a word above 65520 somewhere.
+/// Puts a word above 65520 anywhere but in the last place, which may get lost.
 fn raise(random: &mut Random, words: &mut [u16]) {
-    let place = random.below(words.len());
+    let place = random.below(words.len() - 1);
     words[place] = random.above();
 }
 
-fn deal_with(random: &mut Random, faults: &[u16]) -> Deal {
-    let has = |fault: u16| faults.contains(&fault);
-    let t = match has(1) {
-        true => random.pick(&[0, 16, 17]),
-        false => random.within(1, 15),
-    };
-    let d = match (has(2), has(5)) {
-        (true, true) => random.within(65, 70),
-        (true, false) => random.pick(&[0, 65, 66]),
-        _ => random.within(1, 5),
-    };
-    let (mut tape, mut total) = (random_words(t, d), Layout::new(t, d).total());
-    if has(3) {
-        tape = off(random, tape);
-    }
-    if has(4) {
-        total = off(random, total);
-    }
-    let mut call = Deal {
-        t,
-        secret: random.fields(d),
-        random: random.fields(tape),
-        shares: random.words(total),
-    };
-    if has(5) {
-        raise(random, &mut call.secret);
-    }
-    if has(6) {
-        raise(random, &mut call.random);
-    }
-    call
-}
-
-/// Members 1 to n as far as a mask reaches.
-fn reach(t: usize) -> u32 {
-    match 2 * t + 1 {
-        n if n > 31 => u32::MAX,
-        n => (1 << n) - 1,
-    }
+fn is_above(word: &u16) -> bool {
+    *word > LARGEST
 }
 
 /// A bit beyond member n.
@@ -145,14 +124,11 @@ fn beyond(random: &mut Random, t: usize) -> u32 {
     1 << random.pick(&[2 * t + 1, 31, bit])
 }
 
-/// A t outside 1..15 that leaves room for the other fault.
-fn bad_t(random: &mut Random, faults: &[u16]) -> usize {
-    if faults.contains(&12) {
-        0
-    } else if faults.contains(&16) {
-        16
-    } else {
-        random.pick(&[0, 16, 17])
+/// A t outside 1..15. A member of the set that was beyond n still is.
+fn bad_t(random: &mut Random, t: usize, set: u32) -> usize {
+    match set & !everybody(2 * t + 1) {
+        0 => random.pick(&[0, 16, 17]),
+        _ => 0,
     }
 }
 
@@ -161,128 +137,166 @@ fn stray_value(t: usize, i: usize) -> u16 {
     (0..t + 1).fold(1, |power, _| mul(power, i as u32)) as u16
 }
 
-fn open_with(random: &mut Random, faults: &[u16]) -> Open {
-    let has = |fault: u16| faults.contains(&fault);
-    let t = match has(1) {
-        true => bad_t(random, faults),
-        false => random.within(2, 15),
-    };
-    let d = match (has(2), has(16)) {
-        (true, true) => 65,
-        (true, false) => random.pick(&[0, 65, 66]),
-        _ => random.within(1, 3),
-    };
-    let layout = Layout::new(t, d);
-    let mut shares = vec![0; layout.total()];
-    for i in 1..=layout.n {
-        if has(16) {
-            shares[layout.word(i, d - 1)] = stray_value(t, i);
-        }
-        if has(15) {
-            let place = layout.tag(i, 1);
-            shares[place..place + layout.n].fill(1);
+impl Faulty for Deal {
+    fn good(random: &mut Random) -> Deal {
+        let (t, d) = (random.within(1, 15), random.within(2, 5));
+        Deal {
+            t,
+            secret: random.fields(d),
+            random: random.fields(random_words(t, d)),
+            shares: random.words(Layout::new(t, d).total()),
         }
     }
-    if has(11) {
-        shares.resize(off(random, layout.total()), 0);
-    }
-    let (present, quorum) = mask_and_quorum(random, t, faults);
-    Open {
-        t,
-        present,
-        quorum,
-        shares,
-        secret: random.words(d),
-        survivors: random.mask(),
-        agreeing: random.mask(),
-    }
-}
 
-fn mask_and_quorum(random: &mut Random, t: usize, faults: &[u16]) -> (u32, u16) {
-    let has = |fault: u16| faults.contains(&fault);
-    let n = 2 * t + 1;
-    let (mut present, mut quorum) = (reach(t), 0);
-    if has(14) {
-        // Far too few, or one missing of all that are asked for.
-        match has(16) || random.coin() {
-            true => {
-                present &= !(1 << random.below(n.min(31)));
-                quorum = n as u16;
+    fn spoil(&mut self, random: &mut Random, fault: u16) {
+        match fault {
+            1 => self.t = bad_t(random, self.t, 0),
+            2 => {
+                let none = !self.secret.iter().any(is_above) && random.coin();
+                let length = if none { 0 } else { random.within(65, 70) };
+                self.secret.resize(length, 0);
             }
-            false => present = random.choose(present, t.min(15)),
+            3 => change_length(random, &mut self.random, 0),
+            4 => change_length(random, &mut self.shares, 0),
+            5 => raise(random, &mut self.secret),
+            _ => raise(random, &mut self.random),
         }
     }
-    if has(13) {
-        let small = random.within(1, t.max(1)) as u16;
-        quorum = match has(14) || t == 0 {
-            true => random.pick(&[n as u16 + 1, u16::MAX]),
-            false => random.pick(&[small, t as u16, n as u16 + 1, u16::MAX]),
+}
+
+impl Open {
+    /// How many usable members the quorum asks for.
+    fn asked(&self) -> usize {
+        match self.quorum {
+            0 => self.t + 1,
+            given => given as usize,
+        }
+    }
+
+    /// A quorum that is neither 0 nor t + 1 to n; one that was not met still is not.
+    fn bad_quorum(&self, random: &mut Random) -> u16 {
+        let t = self.t as u16;
+        let met = self.present.count_ones() as usize >= self.asked();
+        let small = random.within(1, self.t) as u16;
+        let large = random.pick(&[2 * t + 2, u16::MAX]);
+        match met && random.coin() {
+            true => random.pick(&[small, t]),
+            false => large,
+        }
+    }
+
+    /// Leaves fewer members present than asked for, often just one fewer.
+    fn miss_quorum(&mut self, random: &mut Random) {
+        let most = self.asked() - 1;
+        let fewer = random.within(0, most);
+        let count = random.pick(&[most, fewer]);
+        self.present = random.choose(self.present, count);
+    }
+}
+
+impl Faulty for Open {
+    /// All words 0: dealt so with keys and coefficients 0.
+    fn good(random: &mut Random) -> Open {
+        let (t, d) = (random.within(2, 15), random.within(1, 3));
+        let layout = Layout::new(t, d);
+        let quorum = random.within(t + 1, layout.n) as u16;
+        Open {
+            t,
+            present: everybody(layout.n),
+            quorum: random.pick(&[0, quorum, layout.n as u16]),
+            shares: vec![0; layout.total()],
+            secret: random.words(d),
+            survivors: random.mask(),
+            agreeing: random.mask(),
+        }
+    }
+
+    fn spoil(&mut self, random: &mut Random, fault: u16) {
+        let layout = Layout::new(self.t, self.secret.len());
+        match fault {
+            1 => self.t = bad_t(random, self.t, self.present),
+            2 => self.secret.resize(random.pick(&[0, 65, 66]), 0),
+            11 => change_length(random, &mut self.shares, 0),
+            12 => self.present |= beyond(random, self.t),
+            13 => self.quorum = self.bad_quorum(random),
+            14 => self.miss_quorum(random),
+            15 => {
+                for i in 1..=layout.n {
+                    self.shares[layout.tag(i, 1)..layout.key(i, 1)].fill(1);
+                }
+            }
+            _ => {
+                for i in 1..=layout.n {
+                    self.shares[layout.word(i, layout.d - 1)] = stray_value(self.t, i);
+                }
+            }
+        }
+    }
+}
+
+impl Faulty for Prune {
+    fn good(random: &mut Random) -> Prune {
+        let t = random.within(1, 15);
+        let n = 2 * t + 1;
+        Prune {
+            t,
+            rows: (0..n).map(|_| random.mask() & everybody(n)).collect(),
+            survivors: random.mask(),
+        }
+    }
+
+    fn spoil(&mut self, random: &mut Random, fault: u16) {
+        match fault {
+            1 => {
+                let all = self.rows.iter().fold(0, |set, row| set | row);
+                self.t = bad_t(random, self.t, all);
+            }
+            10 => change_length(random, &mut self.rows, 0),
+            _ => {
+                let place = random.below(self.rows.len() - 1);
+                self.rows[place] |= beyond(random, self.t);
+            }
+        }
+    }
+}
+
+impl Decode {
+    /// Leaves at most t members in the set; one whose value is above 65520 stays.
+    fn too_few(&mut self, random: &mut Random) {
+        let kept: u32 = match self.values.iter().position(is_above) {
+            Some(place) => 1 << place,
+            None => 0,
         };
-    }
-    if has(12) {
-        present |= beyond(random, t);
-    }
-    (present, quorum)
-}
-
-fn prune_with(random: &mut Random, faults: &[u16]) -> Prune {
-    let has = |fault: u16| faults.contains(&fault);
-    let t = match has(1) {
-        true => bad_t(random, faults),
-        false => random.within(1, 15),
-    };
-    let mut count = 2 * t + 1;
-    if has(10) {
-        count = off(random, count);
-    }
-    let mut rows: Vec<u32> = (0..count).map(|_| random.mask() & reach(t)).collect();
-    if has(12) && rows.is_empty() {
-        rows = vec![0; 2];
-    }
-    if has(12) {
-        let place = random.below(rows.len());
-        rows[place] |= beyond(random, t);
-    }
-    Prune {
-        t,
-        rows,
-        survivors: random.mask(),
+        let others = random.within(0, self.t - kept.count_ones() as usize);
+        self.set = kept | random.choose(self.set & !kept, others);
     }
 }
 
-fn decode_with(random: &mut Random, faults: &[u16]) -> Decode {
-    let has = |fault: u16| faults.contains(&fault);
-    let t = match has(1) {
-        true => bad_t(random, faults),
-        false => random.within(1, 15),
-    };
-    let n = 2 * t + 1;
-    let mut values: Vec<u16> = match has(16) {
-        true => (1..=n).map(|i| stray_value(t, i)).collect(),
-        false => vec![random.field(); n],
-    };
-    let mut set = reach(t);
-    if has(17) {
-        set = random.choose(set, t.min(15));
+impl Faulty for Decode {
+    fn good(random: &mut Random) -> Decode {
+        let t = random.within(1, 15);
+        let n = 2 * t + 1;
+        Decode {
+            t,
+            values: vec![random.field(); n],
+            set: everybody(n),
+            coefficients: random.words(t + 1),
+        }
     }
-    if has(18) {
-        let first = set.trailing_zeros() as usize;
-        values[first] = random.above();
-    }
-    if has(12) {
-        set |= beyond(random, t);
-    }
-    if has(11) {
-        values.resize(off(random, n), 0);
-    }
-    let room = match has(19) {
-        true => off(random, t + 1),
-        false => t + 1,
-    };
-    Decode {
-        t,
-        values,
-        set,
-        coefficients: random.words(room),
+
+    fn spoil(&mut self, random: &mut Random, fault: u16) {
+        match fault {
+            1 => self.t = bad_t(random, self.t, self.set),
+            11 => change_length(random, &mut self.values, 0),
+            19 => change_length(random, &mut self.coefficients, 0),
+            12 => self.set |= beyond(random, self.t),
+            17 => self.too_few(random),
+            18 => raise(random, &mut self.values),
+            _ => {
+                self.values = (1..=2 * self.t + 1)
+                    .map(|i| stray_value(self.t, i))
+                    .collect()
+            }
+        }
     }
 }

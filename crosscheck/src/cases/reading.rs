@@ -1,44 +1,51 @@
 //! Hand-in texts: good ones in any order, and every kind of damage to lines and numerals.
 
-use super::Round;
+use super::page::{Page, numeral};
+use super::{Round, program};
 use crate::calls::{Read, ReadAnswer, Text};
 use crate::random::Random;
-use crate::reference::sharing::Layout;
+use crate::reference::text::{LONGEST, ROOM};
 
-/// A text as lines of fields, and what follows the last line end.
-#[derive(Clone)]
-struct Page {
-    layout: Layout,
-    lines: Vec<Vec<Vec<u8>>>,
-    tail: Vec<u8>,
+/// A reason to refuse a text. Lines are counted back from the last one.
+#[derive(Clone, Copy)]
+pub enum Fault {
+    Room,
+    TooLong,
+    FirstLine,
+    Shape(usize),
+    Member(usize),
 }
 
-impl Page {
-    fn bytes(&self) -> Vec<u8> {
-        let mut text = Vec::new();
-        for line in &self.lines {
-            text.extend(line.join(&b'\t'));
-            text.push(b'\n');
+impl Fault {
+    fn number(self) -> u16 {
+        match self {
+            Fault::Room => 25,
+            Fault::TooLong => 21,
+            Fault::FirstLine => 22,
+            Fault::Shape(_) => 23,
+            Fault::Member(_) => 24,
         }
-        text.extend(&self.tail);
-        text
     }
 }
 
-/// The two faults whose order the reader keeps, as they are named in the outcomes.
-pub const ORDERS: &[&str] = &[
-    "25 goes before 21",
-    "25 goes before 22",
-    "25 goes before 23",
-    "25 goes before 24",
-    "21 goes before 22",
-    "21 goes before 23",
-    "21 goes before 24",
-    "22 goes before 23",
-    "22 goes before 24",
-    "23 goes before 24 on one line",
-    "23 on a line before 24",
-    "24 on a line before 23",
+/// Each two faults, the one that the reader names first, and how the outcomes call it.
+pub const ORDERS: &[(&str, Fault, Fault)] = &[
+    ("25 goes before 21", Fault::Room, Fault::TooLong),
+    ("25 goes before 22", Fault::Room, Fault::FirstLine),
+    ("25 goes before 23", Fault::Room, Fault::Shape(0)),
+    ("25 goes before 24", Fault::Room, Fault::Member(0)),
+    ("21 goes before 22", Fault::TooLong, Fault::FirstLine),
+    ("21 goes before 23", Fault::TooLong, Fault::Shape(0)),
+    ("21 goes before 24", Fault::TooLong, Fault::Member(0)),
+    ("22 goes before 23", Fault::FirstLine, Fault::Shape(0)),
+    ("22 goes before 24", Fault::FirstLine, Fault::Member(0)),
+    (
+        "23 goes before 24 on one line",
+        Fault::Shape(0),
+        Fault::Member(0),
+    ),
+    ("23 on a line before 24", Fault::Shape(1), Fault::Member(0)),
+    ("24 on a line before 23", Fault::Member(1), Fault::Shape(0)),
 ];
 
 pub fn all(round: &mut Round) {
@@ -58,10 +65,6 @@ pub fn all(round: &mut Round) {
     orders(round);
 }
 
-fn numeral(number: usize) -> Vec<u8> {
-    number.to_string().into_bytes()
-}
-
 /// A word of any count of digits, each border included.
 fn some_numeral(random: &mut Random) -> Vec<u8> {
     let any = random.word() as usize;
@@ -74,23 +77,16 @@ fn some_numeral(random: &mut Random) -> Vec<u8> {
 
 /// A good text with lines for some members.
 fn page(random: &mut Random, t: usize, d: usize) -> Page {
-    let layout = Layout::new(t, d);
-    let mut order: Vec<usize> = (1..=layout.n).collect();
+    let mut page = Page::new(t, d, some_numeral(random));
+    let (n, width) = (page.layout.n, page.layout.width());
+    let mut order: Vec<usize> = (1..=n).collect();
     random.shuffle(&mut order);
-    let count = random.within(0, layout.n);
-    order.truncate(random.pick(&[count, count, layout.n, 1]));
-    let first = vec![b"D".to_vec(), numeral(t), numeral(d), some_numeral(random)];
-    let mut lines = vec![first];
+    let count = random.within(0, n);
+    order.truncate(random.pick(&[count, count, n, 1]));
     for i in order {
-        let mut line = vec![b"P".to_vec(), numeral(i)];
-        line.extend((0..layout.width()).map(|_| some_numeral(random)));
-        lines.push(line);
+        page.add(i, (0..width).map(|_| some_numeral(random)));
     }
-    Page {
-        layout,
-        lines,
-        tail: Vec::new(),
-    }
+    page
 }
 
 fn some_page(round: &mut Round) -> Page {
@@ -111,6 +107,7 @@ fn page_with(round: &mut Round, count: usize) -> Page {
     }
 }
 
+/// Reads by both sides. Now and then the program reads it too.
 fn submit(round: &mut Round, kind: &str, text: Vec<u8>, room: usize) -> (Read, ReadAnswer) {
     let call = Read {
         text: Text(text),
@@ -121,15 +118,19 @@ fn submit(round: &mut Round, kind: &str, text: Vec<u8>, room: usize) -> (Read, R
         present: round.random.mask(),
     };
     let answer = round.ledger.compare(kind, &call);
+    if room == ROOM {
+        program::try_text(round, kind, &call.text.0);
+    }
     (call, answer)
 }
 
-/// Reads a text whose number is known.
-fn expect(round: &mut Round, kind: &str, text: Vec<u8>, room: usize, number: u16) {
+/// Reads a text whose number is known; true if it is the one given.
+fn expect(round: &mut Round, kind: &str, text: Vec<u8>, room: usize, number: u16) -> bool {
     let (call, answer) = submit(round, kind, text, room);
     let right = answer.number == number;
     let what = format!("{number} expected");
     round.ledger.demand(right, kind, &call, &what, &answer);
+    right
 }
 
 fn good(round: &mut Round) {
@@ -141,7 +142,7 @@ fn good(round: &mut Round) {
     if shares == page.layout.n {
         round.ledger.note("read: good with all shares");
     }
-    expect(round, "good text", page.bytes(), 4867, 0);
+    expect(round, "good text", page.bytes(), ROOM, 0);
 }
 
 /// The longest good text there is.
@@ -156,7 +157,7 @@ fn longest_good(round: &mut Round) {
     if page.bytes().len() == 29362 {
         round.ledger.note("read: the longest good text");
     }
-    expect(round, "longest good text", page.bytes(), 4867, 0);
+    expect(round, "longest good text", page.bytes(), ROOM, 0);
 }
 
 /// Names of the kinds of damage that spoil a line's shape.
@@ -183,10 +184,17 @@ pub const DAMAGES: &[&str] = &[
     "00",
 ];
 
+/// The kinds that, done to a line's last field, leave its member's field in place.
+const BESIDE_MEMBER: [usize; 18] = [0, 1, 2, 3, 4, 5, 6, 7, 8, 9, 10, 11, 12, 13, 14, 15, 16, 19];
+
 /// Spoils a line's shape in the way of that place in the list.
 fn damage(random: &mut Random, line: &mut Vec<Vec<u8>>, way: usize) {
     let place = random.within(1, line.len() - 1);
     let place = random.pick(&[place, line.len() - 1, 1]);
+    damage_at(random, line, place, way);
+}
+
+fn damage_at(random: &mut Random, line: &mut Vec<Vec<u8>>, place: usize, way: usize) {
     match way {
         0 => line[place].insert(0, b'0'),
         1 => line[place] = b"65536".to_vec(),
@@ -257,7 +265,7 @@ fn first_lines(round: &mut Round) {
         line[2] = round.random.pick(&[0, 65, 128, 65535]).to_string().into();
         round.ledger.note("read: first line, d outside");
     }
-    expect(round, "first line spoilt", page.bytes(), 4867, 22);
+    expect(round, "first line spoilt", page.bytes(), ROOM, 22);
 }
 
 /// Damage to a share line's shape.
@@ -268,7 +276,7 @@ fn share_lines(round: &mut Round) {
     damage(&mut round.random, &mut page.lines[line], way);
     let name = DAMAGES[way];
     round.ledger.note(format!("read: share line, {name}"));
-    expect(round, "share line spoilt", page.bytes(), 4867, 23);
+    expect(round, "share line spoilt", page.bytes(), ROOM, 23);
 }
 
 /// Gives a share line a member that is outside 1..n or was met before.
@@ -297,7 +305,7 @@ fn member_faults(round: &mut Round) {
     let line = round.random.within(1, page.lines.len() - 1);
     let name = wrong_member(&mut round.random, &mut page, line);
     round.ledger.note(format!("read: member {name}"));
-    expect(round, "wrong member", page.bytes(), 4867, 24);
+    expect(round, "wrong member", page.bytes(), ROOM, 24);
 }
 
 /// Names of what can stand at a text's end.
@@ -347,7 +355,7 @@ fn ends(round: &mut Round) {
         }
     };
     round.ledger.note(format!("read: {}", ENDS[way]));
-    expect(round, "ends of a text", text, 4867, number);
+    expect(round, "ends of a text", text, ROOM, number);
 }
 
 /// A few bytes changed, put in or taken out anywhere.
@@ -365,12 +373,12 @@ fn edits(round: &mut Round) {
             _ => text[place] = byte,
         }
     }
-    submit(round, "edited text", text, 4867);
+    submit(round, "edited text", text, ROOM);
 }
 
 /// Texts as long as allowed and longer.
 fn long(round: &mut Round) {
-    for size in [40000, 40001, 40002, 66000] {
+    for size in [40000, 40001, 40002, 66000, 200000] {
         let start = some_page(round).bytes();
         let mut text = match round.random.below(3) {
             0 => Vec::new(),
@@ -386,7 +394,7 @@ fn long(round: &mut Round) {
             text.extend(&filler);
         }
         text.truncate(size);
-        let (call, answer) = submit(round, "long text", text, 4867);
+        let (call, answer) = submit(round, "long text", text, ROOM);
         let right = (answer.number == 21) == (size > 40000);
         let what = "21 just above 40000 bytes";
         round
@@ -404,39 +412,57 @@ fn lengths(round: &mut Round) {
     }
 }
 
-/// Texts with two faults.
-fn orders(round: &mut Round) {
-    for (way, name) in ORDERS.iter().enumerate() {
-        let mut page = page_with(round, 2);
-        let last = page.lines.len() - 1;
-        let (spoilt, wrong) = match way {
-            10 => (last - 1, last),
-            11 => (last, last - 1),
-            _ => (last, last),
-        };
-        let some_way = round.random.below(DAMAGES.len());
-        // Damage that leaves the member's field in place keeps both faults on one line.
-        let kept = round.random.pick(&[6, 7, 15]);
-        if matches!(way, 3 | 6 | 8 | 9 | 10 | 11) {
-            wrong_member(&mut round.random, &mut page, wrong);
-        }
-        if matches!(way, 2 | 5 | 7 | 9 | 10 | 11) {
-            let which = if way == 9 { kept } else { some_way };
-            damage(&mut round.random, &mut page.lines[spoilt], which);
-        }
-        if matches!(way, 1 | 4 | 7 | 8) {
-            damage(&mut round.random, &mut page.lines[0], some_way);
-        }
-        let mut text = page.bytes();
-        if matches!(way, 0 | 4..=6) {
-            while text.len() <= 40000 {
-                let more = page.bytes();
-                text.extend(more);
+/// A page with faults, and the length of the buffer that it is read into.
+pub struct Faulty {
+    pub page: Page,
+    room: usize,
+}
+
+impl Faulty {
+    pub fn new(page: Page) -> Faulty {
+        Faulty { page, room: ROOM }
+    }
+
+    /// Adds the fault, and leaves the others in place.
+    pub fn spoil(&mut self, random: &mut Random, fault: Fault) {
+        let last = self.page.lines.len() - 1;
+        match fault {
+            Fault::Room => self.room = random.pick(&[4866, 4868]),
+            Fault::TooLong => {
+                let more = self.page.bytes();
+                while self.page.tail.len() <= LONGEST {
+                    self.page.tail.extend(&more);
+                }
             }
+            Fault::FirstLine => {
+                let way = random.below(DAMAGES.len());
+                damage(random, &mut self.page.lines[0], way);
+            }
+            Fault::Shape(back) => {
+                let line = &mut self.page.lines[last - back];
+                let way = random.pick(&BESIDE_MEMBER);
+                damage_at(random, line, line.len() - 1, way);
+            }
+            Fault::Member(back) => drop(wrong_member(random, &mut self.page, last - back)),
         }
-        let room = if way < 4 { 4868 - 2 * (way % 2) } else { 4867 };
-        let number = name[..2].parse().unwrap_or(0);
-        expect(round, "two faults", text, room, number);
-        round.ledger.note(format!("read: {name}"));
+    }
+
+    /// Adds the fault; true if the text is then refused for it.
+    fn spoil_and_expect(&mut self, round: &mut Round, fault: Fault) -> bool {
+        self.spoil(&mut round.random, fault);
+        let text = self.page.bytes();
+        expect(round, "two faults", text, self.room, fault.number())
+    }
+}
+
+/// For each two faults: a good text gets the second one, and then the first one too.
+fn orders(round: &mut Round) {
+    for (name, first, second) in ORDERS {
+        let mut text = Faulty::new(page_with(round, 2));
+        let alone = text.spoil_and_expect(round, *second);
+        let before = text.spoil_and_expect(round, *first);
+        if alone && before {
+            round.ledger.note(format!("read: {name}"));
+        }
     }
 }

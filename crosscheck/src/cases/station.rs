@@ -1,9 +1,9 @@
 //! A dealt station, and what its members hand in: alterations and the check of the demands.
 
-use super::Round;
+use super::{Round, program};
 use crate::calls::{Deal, Open, Opened};
 use crate::random::Random;
-use crate::reference::sharing::{random_words, same_share, usable, Layout};
+use crate::reference::sharing::{Layout, random_words, same_share, usable};
 use crate::reference::{everybody, members};
 
 /// How the keys of a dealing are made.
@@ -140,7 +140,8 @@ impl Handed<'_> {
         usable(self.layout(), self.present, &self.shares)
     }
 
-    /// Opens by both sides, checks the demands and notes the classes.
+    /// Opens by both sides, checks the demands and notes the classes. Now and then the program
+    /// opens it too.
     pub fn open(&self, round: &mut Round, kind: &str) -> Opened {
         let call = Open {
             t: self.station.t,
@@ -156,6 +157,7 @@ impl Handed<'_> {
             self.check_demands(round, kind, &call, &answer);
             self.note(round, &answer);
         }
+        program::try_hand_in(round, kind, self);
         answer
     }
 

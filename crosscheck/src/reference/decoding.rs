@@ -1,9 +1,9 @@
 //! Decoding one word, by Berlekamp and Welch's linear system and by trying all subsets.
 
 use super::elimination::kernel_vector;
-use super::field::{mul, sub, P};
+use super::field::{P, mul, sub};
 use super::polynomial::{divide, interpolate, value, weights};
-use super::{allowed, everybody, members, need, BLANK, LARGEST};
+use super::{BLANK, LARGEST, allowed, everybody, members, need};
 
 /// How the polynomial is sought.
 #[derive(Clone, Copy, Debug, PartialEq, Eq)]

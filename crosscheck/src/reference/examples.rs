@@ -1,10 +1,11 @@
 //! The rules' examples C1 to C14 against the other implementation.
 
-use super::decoding::{decode, Way};
+use super::decoding::{Way, decode};
 use super::field::{inverse, mul};
+use super::program::printed;
 use super::pruning::prune;
-use super::sharing::{deal, open, tag, Opening};
-use super::text::{read, Reading, ROOM};
+use super::sharing::{Opening, deal, open, tag};
+use super::text::{ROOM, Reading, read};
 
 const TEXT: &str = "D\t1\t1\t0\n\
     P\t1\t253\t254\t507\t760\t1\t1\t1\t2\t1\t3\n\
@@ -113,4 +114,17 @@ fn decoding_refuses_in_order() {
     assert_eq!(room, [65535; 2]);
     assert_eq!(decode(1, &[5, 5, 65535], 3, &mut room, Way::Subsets), 0);
     assert_eq!(room, [5, 0]);
+}
+
+#[test]
+fn the_program_prints() {
+    assert_eq!(printed(TEXT.as_bytes()), "OPEN\t3\t3\nWORD\t1\t250\n");
+    assert_eq!(printed(b""), "REFUSED\t22\t0\n");
+    assert_eq!(printed(b"D\t1\t1\t0\n"), "REFUSED\t14\t0\n");
+    // C10
+    let mut text = "D\t1\t1\t0\n".to_string();
+    for (i, word) in [(1, 253), (2, 256), (3, 300)] {
+        text += &format!("P\t{i}\t{word}{}\n", "\t0".repeat(9));
+    }
+    assert_eq!(printed(text.as_bytes()), "REFUSED\t16\t7\n");
 }

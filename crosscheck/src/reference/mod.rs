@@ -5,6 +5,7 @@ pub mod decoding;
 pub mod elimination;
 pub mod field;
 pub mod polynomial;
+pub mod program;
 pub mod pruning;
 pub mod sharing;
 pub mod text;

@@ -1,10 +1,10 @@
 //! Tags, dealing and opening.
 
-use super::decoding::{agreeing, polynomial_through, subsets, Point, Way};
-use super::field::{add, mul, P};
+use super::decoding::{Point, Way, agreeing, polynomial_through, subsets};
+use super::field::{P, add, mul};
 use super::polynomial::{value, weights};
 use super::pruning::survivors;
-use super::{allowed, everybody, holds, members, need, BLANK, LARGEST};
+use super::{BLANK, LARGEST, allowed, everybody, holds, members, need};
 
 /// The tag: beta plus the sum of alpha to the power k times word k.
 pub fn tag(alpha: u16, beta: u16, words: &[u16]) -> u16 {

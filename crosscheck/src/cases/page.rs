@@ -1,0 +1,43 @@
+//! A hand-in text as lines of fields.
+
+use crate::reference::sharing::Layout;
+
+/// The lines, and what follows the last line end.
+#[derive(Clone)]
+pub struct Page {
+    pub layout: Layout,
+    pub lines: Vec<Vec<Vec<u8>>>,
+    pub tail: Vec<u8>,
+}
+
+impl Page {
+    /// The first line alone.
+    pub fn new(t: usize, d: usize, quorum: Vec<u8>) -> Page {
+        Page {
+            layout: Layout::new(t, d),
+            lines: vec![vec![b"D".to_vec(), numeral(t), numeral(d), quorum]],
+            tail: Vec::new(),
+        }
+    }
+
+    /// Adds a member's line.
+    pub fn add(&mut self, member: usize, words: impl Iterator<Item = Vec<u8>>) {
+        let mut line = vec![b"P".to_vec(), numeral(member)];
+        line.extend(words);
+        self.lines.push(line);
+    }
+
+    pub fn bytes(&self) -> Vec<u8> {
+        let mut text = Vec::new();
+        for line in &self.lines {
+            text.extend(line.join(&b'\t'));
+            text.push(b'\n');
+        }
+        text.extend(&self.tail);
+        text
+    }
+}
+
+pub fn numeral(number: usize) -> Vec<u8> {
+    number.to_string().into_bytes()
+}

@@ -1,0 +1,135 @@
+//! Deals a secret to five members, sees that it opens, alters one member's share, and opens what
+//! they hand in.
+
+unsafe extern "C" {
+    fn rutzebam_deal(
+        t: usize,
+        secret: *const u16,
+        secret_len: usize,
+        random: *const u16,
+        random_len: usize,
+        shares: *mut u16,
+        shares_len: usize,
+    ) -> u16;
+    fn rutzebam_open(
+        t: usize,
+        present: u32,
+        quorum: u16,
+        shares: *const u16,
+        shares_len: usize,
+        secret: *mut u16,
+        secret_len: usize,
+        survivors: *mut u32,
+        agreeing: *mut u32,
+    ) -> u16;
+}
+
+const T: usize = 2;
+const D: usize = 3;
+const N: usize = 2 * T + 1;
+const WIDTH: usize = D + 3 * N;
+
+/// Deals the secret into the shares. An error is the number of the check that failed.
+fn deal(t: usize, secret: &[u16], random: &[u16], shares: &mut [u16]) -> Result<(), u16> {
+    // A slice's pointer is never null, and a `&mut` overlaps nothing else.
+    let number = unsafe {
+        rutzebam_deal(
+            t,
+            secret.as_ptr(),
+            secret.len(),
+            random.as_ptr(),
+            random.len(),
+            shares.as_mut_ptr(),
+            shares.len(),
+        )
+    };
+    if number == 0 { Ok(()) } else { Err(number) }
+}
+
+/// What an opening gives.
+struct Opened {
+    secret: Vec<u16>,
+    survivors: u32,
+    agreeing: u32,
+}
+
+/// Opens d words from the shares. An error is the number of the check that failed, and the
+/// survivors.
+fn open(
+    t: usize,
+    d: usize,
+    present: u32,
+    quorum: u16,
+    shares: &[u16],
+) -> Result<Opened, (u16, u32)> {
+    let mut secret = vec![0; d];
+    let (mut survivors, mut agreeing) = (0, 0);
+    // As above; the three places written are this function's own.
+    let number = unsafe {
+        rutzebam_open(
+            t,
+            present,
+            quorum,
+            shares.as_ptr(),
+            shares.len(),
+            secret.as_mut_ptr(),
+            secret.len(),
+            &mut survivors,
+            &mut agreeing,
+        )
+    };
+    match number {
+        0 => Ok(Opened {
+            secret,
+            survivors,
+            agreeing,
+        }),
+        _ => Err((number, survivors)),
+    }
+}
+
+/// Words for an example only: a recorder takes them from a good source of randomness. A word above
+/// 65520 is drawn again, so that no field word is likelier than another.
+fn draw(count: usize) -> Vec<u16> {
+    let mut state = 1u32;
+    let mut next = || {
+        state = state.wrapping_mul(1664525).wrapping_add(1013904223);
+        (state >> 16) as u16
+    };
+    std::iter::repeat_with(&mut next)
+        .filter(|word| *word <= 65520)
+        .take(count)
+        .collect()
+}
+
+/// Opens the shares of all members: an error unless that gives the secret, and the members given
+/// survive and agree.
+fn must_open(shares: &[u16], secret: &[u16], members: u32) -> Result<(), String> {
+    let opened =
+        open(T, D, (1 << N) - 1, 0, shares).map_err(|refused| format!("opening: {refused:?}"))?;
+    let (survivors, agreeing) = (opened.survivors, opened.agreeing);
+    println!(
+        "opening: survivors {survivors}, agreeing {agreeing}, secret {:?}",
+        opened.secret
+    );
+    match opened.secret == secret && survivors == members && agreeing == members {
+        true => Ok(()),
+        false => Err("another secret or other members".to_string()),
+    }
+}
+
+/// An error ends the program with status 1.
+fn main() -> Result<(), String> {
+    let secret = [250, 1873, 65520];
+    let random = draw(T * D + 2 * N * N);
+    let mut shares = vec![0; N * WIDTH];
+    deal(T, &secret, &random, &mut shares).map_err(|number| format!("dealing: {number}"))?;
+    println!("dealing: 0");
+
+    // The readings may be deleted only once the shares are seen to open to them.
+    must_open(&shares, &secret, 31)?;
+
+    // Member 4 comes back with another first word: the others strike it.
+    shares[3 * WIDTH] = ((shares[3 * WIDTH] as u32 + 1) % 65521) as u16;
+    must_open(&shares, &secret, 23)
+}
