@@ -10,7 +10,7 @@ use native.Mathlib.Nat.{le-trans, le-of-eq, not-suc-le-zero, eq-or-lt-of-le, le-
 use native.Mathlib.Numerals.{add-one}
 use native.Mathlib.Omega.{arith}
 use lib.Dec.{eqb}
-use lib.ListN.{length, getD, take, length-set}
+use lib.ListN.{length, getD, take, set, length-set}
 use lib.Seq.{take-suc-set, take-all}
 use borrow.Author.Tests.{le-leb}
 use Rattle.lists.specs.Tabulate.{tab, all}
@@ -78,7 +78,7 @@ module _ (xs : List ℕ) (distinct : Distinct xs) (t : ℕ) (long : length xs �
       }
 
   module _ (agreed : ℕ) (secret : List ℕ) (k : ℕ) (going : Going xs t d y s agreed secret k) (more : k < d)
-      (left : ℕ) (after : List ℕ) (turned : Turned xs t y s agreed secret k left after) where
+      (left v : ℕ) (turned : Turned xs t y s agreed k left v) where
     its-poly : turned .f ≡ poly xs t y s k
     unfolding polyOf
     its-poly = sym (ap polyOf (turned .found))
@@ -107,23 +107,19 @@ module _ (xs : List ℕ) (distinct : Distinct xs) (t : ℕ) (long : length xs �
         too-few xs distinct t long d s y (poly xs t y s) (suc k) more each-more
         (subst (λ (m : ℕ). m < need t (card (size t) s)) (ap (card (size t)) left-meet ∙ card-setOf (size t) (meetsAll xs t y s (suc k))) few)
 
-    length-after : length after ≡ d
-    length-after = ap length (turned .stored) ∙ length-set secret k (value (turned .f) 0) ∙ going .length-secret
-
-    -- enough are left
-    going-next : need t (card (size t) s) ≤ card (size t) left → Going xs t d y s left after (k + 1)
-    going-next enough =
-        subst (Going xs t d y s left after) (sym (add-one k))
+    -- enough are left, and the value at 0 is stored
+    going-next : need t (card (size t) s) ≤ card (size t) left → (x : ℕ) → x ≡ v → Going xs t d y s left (set secret k x) (k + 1)
+    going-next enough x stored =
+        subst (Going xs t d y s left (set secret k x)) (sym (add-one k))
         (record {
           inside = more;
-          length-secret = length-after;
+          length-secret = length-set secret k x ∙ going .length-secret;
           each = each-more;
           members = left-meet;
           many = enough;
           so-far =
-              ap (take (suc k)) (turned .stored)
-              ∙ take-suc-set secret k (value (turned .f) 0) (subst (λ (m : ℕ). k < m) (sym (going .length-secret)) more)
-              ∙ ap₂ (λ (l : List ℕ) (g : List ℕ). l ++ (value g 0 ∷ [])) (going .so-far) its-poly
+              take-suc-set secret k x (subst (λ (m : ℕ). k < m) (sym (going .length-secret)) more)
+              ∙ ap₂ (λ (l : List ℕ) (z : ℕ). l ++ (z ∷ [])) (going .so-far) (stored ∙ turned .at-zero ∙ ap (λ (g : List ℕ). value g 0) its-poly)
               ∙ sym (tab-more k (λ j. value (poly xs t y s j) 0));
         })
 
@@ -182,7 +178,7 @@ module _ {t d n w : ℕ} {words : List ℕ} (room : Room t d n w words) {s : ℕ
           (no-word (ownPoints t) (own-distinct t low) t (length-own t) d (word t d words) s k more (word-refused t d n w words room s dec k more values ev len el r f a m e))
           answer (length secret) (going .length-secret)
 
-      module _ {left : ℕ} {after : List ℕ} (turned : Turned (ownPoints t) t (word t d words) s agreed secret k left after)
+      module _ {left v : ℕ} (turned : Turned (ownPoints t) t (word t d words) s agreed k left v)
           {c enough : ℕ} (ec : c ≡ card 32 left) (ee : enough ≡ need t (card (size t) s)) where
         counted : c ≡ card (size t) left
         counted =
@@ -191,13 +187,12 @@ module _ {t d n w : ℕ} {words : List ℕ} (room : Room t d n w words) {s : ℕ
             (subst (λ (m : ℕ). m < 2 ^ size t) (sym (turned .members))
             (setOf-lt (size t) (λ i. has agreed i && eqb (value (turned .f) (getD (ownPoints t) i 0)) (word t d words i k))))
 
-        pub opening-few : c < enough → {answer : Opened} → answer ≡ unopened (length after) s 16 → answer ≡ answered
-        opening-few few {answer} =
+        pub opening-few : c < enough → (x : ℕ) {answer : Opened} → answer ≡ unopened (length (set secret k x)) s 16 → answer ≡ answered
+        opening-few few x {answer} =
             nothing (ownPoints t) t d (word t d words) s
-            (going-few (ownPoints t) (own-distinct t low) t (length-own t) d (word t d words) s agreed secret k going more left after turned (omega (arith, few, counted, ee)))
-            answer (length after)
-            (length-after (ownPoints t) (own-distinct t low) t (length-own t) d (word t d words) s agreed secret k going more left after turned)
+            (going-few (ownPoints t) (own-distinct t low) t (length-own t) d (word t d words) s agreed secret k going more left v turned (omega (arith, few, counted, ee)))
+            answer (length (set secret k x)) (length-set secret k x ∙ going .length-secret)
 
-        pub opening-next : enough ≤ c → Opening left after (k + 1)
-        opening-next many =
-            going-next (ownPoints t) (own-distinct t low) t (length-own t) d (word t d words) s agreed secret k going more left after turned (omega (arith, many, counted, ee))
+        pub opening-next : enough ≤ c → {x : ℕ} → x ≡ v → Opening left (set secret k x) (k + 1)
+        opening-next many {x} =
+            going-next (ownPoints t) (own-distinct t low) t (length-own t) d (word t d words) s agreed secret k going more left v turned (omega (arith, many, counted, ee)) x

@@ -1,4 +1,4 @@
--- One word of opening: what the decoder's answer says of its polynomial, what is stored and who is left.
+-- One word of opening: what the decoder's answer says of its polynomial, and who meets it.
 -- Assumes nothing.
 use mathlib.Core.Path.{_≡_, refl, sym, ap, ap₂, _∙_, subst}
 use mathlib.Core.Logic.{inl, inr}
@@ -10,7 +10,7 @@ use native.Mathlib.Nat.{suc-ne-zero, suc-inj}
 use native.Mathlib.Numerals.{add-one}
 use native.Mathlib.Omega.{arith}
 use lib.Dec.{eqb}
-use lib.ListN.{length, getD, set}
+use lib.ListN.{length, getD}
 use borrow.Author.Tests.{eq-eqb, le-leb, lt-ltb}
 use Rattle.lists.specs.Checks.{refusal}
 use Rattle.lists.specs.Tabulate.{tab}
@@ -58,12 +58,12 @@ unfolding decodedFrom undecoded
 found-one len buffer none one e = let z : _≡_ {A = ℕ} 0 16 = ap (λ (a : Decoded). a .number) e in absurd (omega arith)
 found-one len buffer (some fs) one e = ap some (single fs (one fs refl) ∙ ap (λ (f : List ℕ). f ∷ []) (sym (ap (λ (a : Decoded). a .coefficients) e)))
 
--- word k has a polynomial f; of the agreeing members those are left that meet it, and its value at 0 is stored
-pub record Turned (xs : List ℕ) (t : ℕ) (y : ℕ → ℕ → ℕ) (s agreed : ℕ) (secret : List ℕ) (k left : ℕ) (after : List ℕ) : Type 0 where
+-- word k has a polynomial f: of the agreeing members those left meet it, and v is its value at 0
+pub record Turned (xs : List ℕ) (t : ℕ) (y : ℕ → ℕ → ℕ) (s agreed k left v : ℕ) : Type 0 where
   pub f : List ℕ
   pub found : find xs t 1 (wordAt y k) s ≡ some (f ∷ [])
   pub members : left ≡ setOf (size t) (λ i. has agreed i && eqb (value f (getD xs i 0)) (y i k))
-  pub stored : after ≡ set secret k (value f 0)
+  pub at-zero : v ≡ value f 0
 
 module _ (t d n w : ℕ) (words : List ℕ) (room : Room t d n w words) (s : ℕ) (dec : Decodable t d words s) (k : ℕ) (h : k < d) where
   abbrev theWord : ℕ → ℕ
@@ -100,10 +100,10 @@ module _ (t d n w : ℕ) (words : List ℕ) (room : Room t d n w words) (s : ℕ
       pub word-refused : (m : ℕ) → r ≡ Refused m → found ≡ none
       word-refused m e = refused-none (suc t) m f found (ap (λ (x : Outcome). answerOf x f) (sym e) ∙ decodes)
 
-      pub word-found : r ≡ Found → (agreed : ℕ) (secret : List ℕ) (v left : ℕ) → v ≡ value f 0
+      pub word-found : r ≡ Found → (agreed left v : ℕ) → v ≡ value f 0
           → left ≡ setOf (length values) (λ i. has agreed i && eqb (value f (i + 1)) (getD values i 0))
-          → Turned (ownPoints t) t (word t d words) s agreed secret k left (set secret k v)
-      word-found e agreed secret v left e0 meet =
+          → Turned (ownPoints t) t (word t d words) s agreed k left v
+      word-found e agreed left v e0 meet =
           record {
             f = f;
             found =
@@ -114,5 +114,5 @@ module _ (t d n w : ℕ) (words : List ℕ) (room : Room t d n w words) (s : ℕ
                 ∙ ap (λ (m : ℕ). setOf m (λ i. has agreed i && eqb (value f (i + 1)) (getD values i 0))) as-many
                 ∙ setOf-ext (size t) (λ i. has agreed i && eqb (value f (i + 1)) (getD values i 0)) (λ i. has agreed i && eqb (value f (getD (ownPoints t) i 0)) (theWord i))
                 (λ i l. ap (λ (b : Bool). has agreed i && b) (ap₂ eqb (ap (value f) (add-one i ∙ sym (own-point t i l))) (value-at i l)));
-            stored = ap (set secret k) e0;
+            at-zero = e0;
           }

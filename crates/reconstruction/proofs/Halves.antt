@@ -22,62 +22,61 @@ use Rattle.reconstruction.specs.Votes.{fieldShare, usable, voteRows}
 use Rattle.reconstruction.proofs.Meaning.{usable-words, survivor-usable}
 use Rattle.reconstruction.proofs.Opening.{finish-opens}
 
-module _ (t d n w : ℕ) (words : List ℕ) (room : Room t d n w words) (present quorum : ℕ) where
+module _ (t d n w : ℕ) (words : List ℕ) (room : Room t d n w words) (present : ℕ) where
   abbrev able : ℕ
   able = usable t d present words
 
   abbrev rows : List ℕ
   rows = voteRows t d able words
 
-  abbrev answered : Opened
-  answered = finish (ownPoints t) t d quorum able rows (word t d words)
+  low : t ≤ 15
+  low = within-high 1 15 t (room .threshold)
 
   usable-lt : able < 2 ^ size t
   unfolding usable
   usable-lt = setOf-lt (size t) (λ i. has present i && fieldShare t d words i)
 
-  module _ (a c req : ℕ) (ea : a ≡ able) (ec : c ≡ card 32 a) (er : req ≡ required t quorum) where
-    counted : c ≡ card (size t) able
-    counted = ec ∙ ap (card 32) ea ∙ card-32 t able (within-high 1 15 t (room .threshold)) usable-lt
+  module _ (a : ℕ) (ea : a ≡ able) where
+    pub usable-counted : (c : ℕ) → c ≡ card 32 a → c ≡ card (size t) able
+    usable-counted c ec = ec ∙ ap (card 32) ea ∙ card-32 t able low usable-lt
 
-    pub finish-14 : c < req → (answer : Opened) (len : ℕ) → len ≡ d → answer ≡ unopened len 0 14 → answer ≡ answered
-    unfolding finish
-    finish-14 h answer len el e =
-        e
-        ∙ ap (λ (m : ℕ). unopened m 0 14) el
-        ∙ sym (rw (lt-leb (required t quorum) (card (size t) able) (subst (λ (m : ℕ). m < required t quorum) counted (subst (λ (m : ℕ). c < m) er h))))
-
-    module _ (met : req ≤ c) (s : ℕ) (from : s ≡ survivors t (voteRows t d a words)) where
+    module _ (s : ℕ) (from : s ≡ survivors t (voteRows t d a words)) where
       es : s ≡ survivors t rows
       es = from ∙ ap (λ (m : ℕ). survivors t (voteRows t d m words)) ea
 
-      met-usable : required t quorum ≤ card (size t) able
-      met-usable = subst (λ (m : ℕ). required t quorum ≤ m) counted (subst (λ (m : ℕ). m ≤ c) er met)
+      pub decodable : (s ≡ 0 → ⊥) → Decodable t d words s
+      unfolding width
+      decodable some-left =
+          subst (Decodable t d words) (sym es)
+          (record {
+            below = survivors-largest t rows .below;
+            enough = elim (survivors-size t rows) [ inl z ↦ absurd (some-left (es ∙ z)) | inr h ↦ h ];
+            field = λ i l h k m.
+                usable-words t d present words i l (survivor-usable t d able words (survivors t rows) (survivors-largest t rows .closed) i l h) k (omega arith);
+          })
 
-      pub finish-15 : s ≡ 0 → (answer : Opened) (len : ℕ) → len ≡ d → answer ≡ unopened len 0 15 → answer ≡ answered
-      unfolding finish
-      finish-15 z answer len el e =
-          e
-          ∙ ap (λ (m : ℕ). unopened m 0 15) el
-          ∙ sym (rw (le-leb (required t quorum) (card (size t) able) met-usable, eq-eqb (survivors t rows) 0 (sym es ∙ z)))
+      pub needed : (v enough : ℕ) → v ≡ card 32 s → enough ≡ need t v → enough ≡ need t (card (size t) s)
+      needed v enough ev en =
+          en ∙ ap (need t) (ev ∙ card-32 t s low (subst (λ (m : ℕ). m < 2 ^ size t) (sym es) (survivors-largest t rows .below)))
 
-      module _ (some-left : s ≡ 0 → ⊥) where
-        pub decodable : Decodable t d words s
-        unfolding width
-        decodable =
-            subst (Decodable t d words) (sym es)
-            (record {
-              below = survivors-largest t rows .below;
-              enough = elim (survivors-size t rows) [ inl z ↦ absurd (some-left (es ∙ z)) | inr h ↦ h ];
-              field = λ i l h k m.
-                  usable-words t d present words i l (survivor-usable t d able words (survivors t rows) (survivors-largest t rows .closed) i l h) k (omega arith);
-            })
+      module _ (quorum : ℕ) (met : required t quorum ≤ card (size t) able) where
+        pub finish-15 : s ≡ 0 → (answer : Opened) (len : ℕ) → len ≡ d → answer ≡ unopened len 0 15
+            → answer ≡ finish (ownPoints t) t d quorum able rows (word t d words)
+        unfolding finish
+        finish-15 z answer len el e =
+            e
+            ∙ ap (λ (m : ℕ). unopened m 0 15) el
+            ∙ sym (rw (le-leb (required t quorum) (card (size t) able) met, eq-eqb (survivors t rows) 0 (sym es ∙ z)))
 
-        pub needed : (v enough : ℕ) → v ≡ card 32 s → enough ≡ need t v → enough ≡ need t (card (size t) s)
-        needed v enough ev en = en ∙ ap (need t) (ev ∙ card-32 t s (within-high 1 15 t (room .threshold)) (decodable .below))
-
-        pub finish-words : (answer : Opened) → answer ≡ openedFrom (ownPoints t) t d (word t d words) s (find (ownPoints t) t d (word t d words) s) → answer ≡ answered
-        finish-words answer e =
+        pub finish-words : (s ≡ 0 → ⊥) → (answer : Opened) → answer ≡ openedFrom (ownPoints t) t d (word t d words) s (find (ownPoints t) t d (word t d words) s)
+            → answer ≡ finish (ownPoints t) t d quorum able rows (word t d words)
+        finish-words some-left answer e =
             e
             ∙ ap (λ (m : ℕ). openedFrom (ownPoints t) t d (word t d words) m (find (ownPoints t) t d (word t d words) m)) es
-            ∙ sym (finish-opens (ownPoints t) t d quorum able rows (word t d words) met-usable (λ z. some-left (es ∙ z)))
+            ∙ sym (finish-opens (ownPoints t) t d quorum able rows (word t d words) met (λ z. some-left (es ∙ z)))
+
+pub finish-14 : (xs : List ℕ) (t d quorum able : ℕ) (rows : List ℕ) (y : ℕ → ℕ → ℕ) → card (size t) able < required t quorum
+    → (answer : Opened) (len : ℕ) → len ≡ d → answer ≡ unopened len 0 14 → answer ≡ finish xs t d quorum able rows y
+unfolding finish
+finish-14 xs t d quorum able rows y few answer len el e =
+    e ∙ ap (λ (m : ℕ). unopened m 0 14) el ∙ sym (rw (lt-leb (required t quorum) (card (size t) able) few))

@@ -4,7 +4,7 @@
 use mathlib.Core.Path.{_≡_}
 use Prim.Native.Nat.{suc, _-_}
 use native.Mathlib.Omega.{arith}
-use lib.ListN.{length, set, length-set}
+use lib.ListN.{length, length-set}
 use borrow.Author.Needs.{needs}
 use Rattle.members.specs.Members.{ownPoints}
 use Rattle.shares.specs.Layout.{word}
@@ -33,11 +33,11 @@ Turn = tie.In-loop Inv-loop μ-loop
 abbrev Counted : Type 0
 Counted = tie.After-card Inv-loop μ-loop
 
--- the decoder has found a polynomial: its value is stored, and those that meet it are left
+-- the decoder has found a polynomial
 turned : (c : tie.After-meeting-members Inv-loop μ-loop)
     → let (start, loop, value) : Start × Loop × tie.After-evaluate Inv-loop μ-loop = (search, search, search) in
     Turned (ownPoints (start .args .t)) (start .args .t) (word (start .args .t) (start .args .d) (start .args .shares .now)) (start .args .survived)
-    (loop .loop .agreed) (loop .loop .secret) (loop .loop .k) (c .meeting-members .result) (set (loop .loop .secret) (loop .loop .k) (value .evaluate .result))
+    (loop .loop .agreed) (loop .loop .k) (c .meeting-members .result) (value .evaluate .result)
 turned c = search word-found
 
 pub open-words-spec : {M : Type 1} → statement M
@@ -75,14 +75,15 @@ open-words-spec =
     let (start, loop, refused) : Start × Loop × tie.After-refuse2 Inv-loop μ-loop = (search, search, search) in
     omega (arith, simp length-set at (refused .refuse2 .kept .0)))
     (λ c.
-    let (start, turn, counted) : Start × Turn × Counted = (search, search, search) in
-    opening-few (start .pre .0) (start .pre .1 .0) (search) (turn .loop-test .taken) (turned (search)) (counted .card .ensures) (start .pre .1 .1 .3) (search) (search))
+    let (start, loop, turn, counted) : Start × Loop × Turn × Counted = (search, search, search, search) in
+    search
+    (opening-few (start .pre .0) (start .pre .1 .0) (loop .loop .inv .0) (turn .loop-test .taken) (turned (search)) (counted .card .ensures) (start .pre .1 .1 .3) (search)))
     -- k = k + 1
     (λ c. search needs)
     (λ c. omega arith)
     (λ c. (
-      let (start, turn, counted) : Start × Turn × Counted = (search, search, search) in
-          opening-next (start .pre .0) (start .pre .1 .0) (search) (turn .loop-test .taken) (turned (search)) (counted .card .ensures) (start .pre .1 .1 .3) (search),
+      let (start, loop, turn, counted) : Start × Loop × Turn × Counted = (search, search, search, search) in
+          opening-next (start .pre .0) (start .pre .1 .0) (loop .loop .inv .0) (turn .loop-test .taken) (turned (search)) (counted .card .ensures) (start .pre .1 .1 .3) (search) (search),
       search needs,
       search needs,
     ))
