@@ -1,16 +1,16 @@
--- One word of opening: what the decoder's answer says of its polynomial, and what is stored and left.
+-- One word of opening: what the decoder's answer says of its polynomial, and who meets it.
 -- Assumes nothing.
 use mathlib.Core.Path.{_≡_, refl, sym, ap, ap₂, _∙_, subst}
 use mathlib.Core.Logic.{inl, inr}
 use mathlib.Core.Bool.{Bool, true, _&&_}
 use mathlib.Core.Option.{Option, none, some}
-use mathlib.Core.List.{List}
+use mathlib.Core.List.{List, [], _∷_}
 use Prim.Native.Nat.{ℕ, zero, suc, _+_, _<_, _^_}
-use native.Mathlib.Nat.{suc-ne-zero}
+use native.Mathlib.Nat.{suc-ne-zero, suc-inj}
 use native.Mathlib.Numerals.{add-one}
 use native.Mathlib.Omega.{arith}
 use lib.Dec.{eqb}
-use lib.ListN.{length, getD, set}
+use lib.ListN.{length, getD}
 use borrow.Author.Tests.{eq-eqb, le-leb, lt-ltb}
 use Rattle.lists.specs.Checks.{refusal}
 use Rattle.lists.specs.Tabulate.{tab}
@@ -29,8 +29,10 @@ use Rattle.decoding.specs.Decoding.{Decoded, nth, find, undecoded, decodedFrom,
 use Rattle.decoding.proofs.Apart.{find-ext}
 use Rattle.decoding.proofs.Points.{own-distinct, length-own, own-point}
 use Rattle.decoding.proofs.Refusals.{judgedAt, accepts}
+use Rattle.decoding.proofs.Search.{find-found}
+use Rattle.decoding.proofs.Words.{wordAt}
 use Rattle.reconstruction.specs.Internal.Room.{Room}
-use Rattle.reconstruction.specs.Internal.Steps.{Decodable, meeting, narrowed, storedAt, Worded}
+use Rattle.reconstruction.specs.Internal.Steps.{Decodable}
 
 -- no refusal has the number 0
 refusal-pos : (k : ℕ) → refusal k ≡ 0 → ⊥
@@ -43,12 +45,25 @@ unfolding decodedFrom
 refused-none len k buffer none e = refl
 refused-none len k buffer (some fs) e = absurd (refusal-pos k (ap (λ (a : Decoded). a .number) e))
 
--- and an answer that is found, that there is one, with the coefficients in the buffer
-found-some : (len : ℕ) (buffer : List ℕ) (o : Option (List (List ℕ))) → (let a : Decoded = record { number = 0; coefficients = buffer } in a) ≡ decodedFrom len o
-    → (fs : List (List ℕ)) × (o ≡ some fs) × (buffer ≡ nth fs 0)
+-- the one of a list of one
+single : (fs : List (List ℕ)) → length fs ≡ 1 → fs ≡ nth fs 0 ∷ []
+single [] e = absurd (suc-ne-zero 0 (sym e))
+single (f ∷ []) e = refl
+single (f ∷ g ∷ fs) e = absurd (suc-ne-zero (length fs) (suc-inj e))
+
+-- and an answer that is found, that the coefficients in the buffer are those of the one found
+found-one : (len : ℕ) (buffer : List ℕ) (o : Option (List (List ℕ))) → ((fs : List (List ℕ)) → o ≡ some fs → length fs ≡ 1)
+    → (let a : Decoded = record { number = 0; coefficients = buffer } in a) ≡ decodedFrom len o → o ≡ some (buffer ∷ [])
 unfolding decodedFrom undecoded
-found-some len buffer none e = let z : _≡_ {A = ℕ} 0 16 = ap (λ (a : Decoded). a .number) e in absurd (omega arith)
-found-some len buffer (some fs) e = (fs, refl, ap (λ (a : Decoded). a .coefficients) e)
+found-one len buffer none one e = let z : _≡_ {A = ℕ} 0 16 = ap (λ (a : Decoded). a .number) e in absurd (omega arith)
+found-one len buffer (some fs) one e = ap some (single fs (one fs refl) ∙ ap (λ (f : List ℕ). f ∷ []) (sym (ap (λ (a : Decoded). a .coefficients) e)))
+
+-- word k has a polynomial f: of the agreeing members those left meet it, and v is its value at 0
+pub record Turned (xs : List ℕ) (t : ℕ) (y : ℕ → ℕ → ℕ) (s agreed k left v : ℕ) : Type 0 where
+  pub f : List ℕ
+  pub found : find xs t 1 (wordAt y k) s ≡ some (f ∷ [])
+  pub members : left ≡ setOf (size t) (λ i. has agreed i && eqb (value f (getD xs i 0)) (y i k))
+  pub at-zero : v ≡ value f 0
 
 module _ (t d n w : ℕ) (words : List ℕ) (room : Room t d n w words) (s : ℕ) (dec : Decodable t d words s) (k : ℕ) (h : k < d) where
   abbrev theWord : ℕ → ℕ
@@ -71,50 +86,33 @@ module _ (t d n w : ℕ) (words : List ℕ) (room : Room t d n w words) (s : ℕ
           | inr e ↦ rw e
         ]
 
-    -- the decoder's answer is that of the word
-    decodes : (len : ℕ) → len ≡ suc t → decode t values s len ≡ decodedFrom (suc t) found
-    decodes len el =
-        accepts t values s len (room .threshold) (eq-eqb (length values) (size t) as-many) (eq-eqb len (suc t) el) (lt-ltb s (2 ^ size t) (dec .below))
-        (le-leb (suc t) (card (size t) s) (dec .enough)) (all-intro (size t) (judgedAt values s) judged)
-        ∙ ap (decodedFrom (suc t))
-        (find-ext (ownPoints t) (own-distinct t (within-high 1 15 t (room .threshold))) t (length-own t) 1 s (λ i j. getD values i 0) (λ i j. word t d words i k)
-        (λ i l j m. value-at i l))
+    module _ (len : ℕ) (el : len ≡ suc t) (r : Outcome) (f : List ℕ) (a : answerOf r f ≡ decode t values s len) where
+      -- the decoder's answer is that of the word
+      decodes : answerOf r f ≡ decodedFrom (suc t) found
+      decodes =
+          a
+          ∙ accepts t values s len (room .threshold) (eq-eqb (length values) (size t) as-many) (eq-eqb len (suc t) el) (lt-ltb s (2 ^ size t) (dec .below))
+          (le-leb (suc t) (card (size t) s) (dec .enough)) (all-intro (size t) (judgedAt values s) judged)
+          ∙ ap (decodedFrom (suc t))
+          (find-ext (ownPoints t) (own-distinct t (within-high 1 15 t (room .threshold))) t (length-own t) 1 s (λ i j. getD values i 0) (λ i j. word t d words i k)
+          (λ i l j m. value-at i l))
 
-    module _ (len : ℕ) (el : len ≡ suc t) (agreed : ℕ) (secret : List ℕ) where
-      word-none : (f : List ℕ) (m : ℕ) → (let a : Decoded = record { number = refusal m; coefficients = f } in a) ≡ decode t values s len
-          → Worded (ownPoints t) t theWord agreed k secret found 0 secret
-      unfolding narrowed storedAt
-      word-none f m e =
-          let o : found ≡ none = refused-none (suc t) m f found (e ∙ decodes len el) in
-          record {
-            members = sym (ap (narrowed (ownPoints t) t theWord agreed) o);
-            store = sym (ap (storedAt secret k) o);
-          }
+      pub word-refused : (m : ℕ) → r ≡ Refused m → found ≡ none
+      word-refused m e = refused-none (suc t) m f found (ap (λ (x : Outcome). answerOf x f) (sym e) ∙ decodes)
 
-      word-found : (f : List ℕ) (left v : ℕ) → (let a : Decoded = record { number = 0; coefficients = f } in a) ≡ decode t values s len → v ≡ value f 0
+      pub word-found : r ≡ Found → (agreed left v : ℕ) → v ≡ value f 0
           → left ≡ setOf (length values) (λ i. has agreed i && eqb (value f (i + 1)) (getD values i 0))
-          → Worded (ownPoints t) t theWord agreed k secret found left (set secret k v)
-      unfolding narrowed storedAt meeting
-      word-found f left v e ev0 el0 =
-          let r = found-some (suc t) f found (e ∙ decodes len el) in
-          let fs : List (List ℕ) = r .0 in
+          → Turned (ownPoints t) t (word t d words) s agreed k left v
+      word-found e agreed left v e0 meet =
           record {
+            f = f;
+            found =
+                found-one (suc t) f found (λ fs q. find-found (ownPoints t) t 1 (λ i j. word t d words i k) s fs q .places)
+                (ap (λ (x : Outcome). answerOf x f) (sym e) ∙ decodes);
             members =
-                el0
+                meet
                 ∙ ap (λ (m : ℕ). setOf m (λ i. has agreed i && eqb (value f (i + 1)) (getD values i 0))) as-many
-                ∙ setOf-ext (size t) (λ i. has agreed i && eqb (value f (i + 1)) (getD values i 0)) (λ i. has agreed i && eqb (value (nth fs 0) (getD (ownPoints t) i 0)) (theWord i))
-                (λ i l. ap (λ (b : Bool). has agreed i && b)
-                (ap₂ eqb (ap₂ value (r .2) (add-one i ∙ sym (own-point t i l))) (value-at i l)))
-                ∙ sym (ap (narrowed (ownPoints t) t theWord agreed) (r .1));
-            store = ap (set secret k) (ev0 ∙ ap (λ (g : List ℕ). value g 0) (r .2)) ∙ sym (ap (storedAt secret k) (r .1));
+                ∙ setOf-ext (size t) (λ i. has agreed i && eqb (value f (i + 1)) (getD values i 0)) (λ i. has agreed i && eqb (value f (getD (ownPoints t) i 0)) (theWord i))
+                (λ i l. ap (λ (b : Bool). has agreed i && b) (ap₂ eqb (ap (value f) (add-one i ∙ sym (own-point t i l))) (value-at i l)));
+            at-zero = e0;
           }
-
-      -- the same of the decoder's enum
-      pub refused-word : (r : Outcome) (f : List ℕ) (m : ℕ) → r ≡ Refused m → answerOf r f ≡ decode t values s len
-          → Worded (ownPoints t) t theWord agreed k secret found 0 secret
-      refused-word r f m e a = word-none f m (ap (λ (x : Outcome). answerOf x f) (sym e) ∙ a)
-
-      pub found-word : (r : Outcome) (f : List ℕ) (left v : ℕ) → r ≡ Found → answerOf r f ≡ decode t values s len → v ≡ value f 0
-          → left ≡ setOf (length values) (λ i. has agreed i && eqb (value f (i + 1)) (getD values i 0))
-          → Worded (ownPoints t) t theWord agreed k secret found left (set secret k v)
-      found-word r f left v e a = word-found f left v (ap (λ (x : Outcome). answerOf x f) (sym e) ∙ a)

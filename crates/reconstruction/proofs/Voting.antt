@@ -12,6 +12,9 @@ use Rattle.lists.proofs.Tabulate.{length-tab, getD-tab, all-intro, each-all}
 use Rattle.members.specs.Members.{isThreshold, size, has, setOf, isSet, adding}
 use Rattle.members.proofs.Masks.{setOf-lt}
 use Rattle.members.proofs.Words.{setOf-step, setOf-none}
+use Rattle.pruning.specs.declared.Survivors.{Survivors}
+use Rattle.pruning.specs.declared.Survivors.the-variants.{Left, Refused}
+use Rattle.pruning.specs.Answer.{answerOf}
 use Rattle.pruning.specs.Pruning.{Pruned, survivors, prune}
 use Rattle.pruning.proofs.Answers.{accepts as accepted}
 use Rattle.reconstruction.specs.Votes.{tagHolds, accepts, voteRows}
@@ -73,9 +76,15 @@ votes-pruned t d able words rows h e =
     (setOf-lt (size t) (λ j. accepts t d able words j i)))))
 
 -- what pruning's answer gives is the survivors
-pub survivors-of : (t d able : ℕ) (words rows : List ℕ) (r : Pruned) → isThreshold t ≡ true → rows ≡ voteRows t d able words → r ≡ prune t rows
-    → r .survivors ≡ survivors t (voteRows t d able words)
-survivors-of t d able words rows r h e p = ap (λ (a : Pruned). a .survivors) (p ∙ votes-pruned t d able words rows h e)
+module _ (t d able : ℕ) (words rows : List ℕ) (h : isThreshold t ≡ true) (e : rows ≡ voteRows t d able words) (r : Survivors) (a : answerOf r ≡ prune t rows) where
+  given : (x : Survivors) → r ≡ x → answerOf x .survivors ≡ survivors t (voteRows t d able words)
+  given x q = ap (λ (y : Survivors). answerOf y .survivors) (sym q) ∙ ap (λ (p : Pruned). p .survivors) (a ∙ votes-pruned t d able words rows h e)
+
+  pub survivors-left : (s : ℕ) → r ≡ Left s → s ≡ survivors t (voteRows t d able words)
+  survivors-left s = given (Left s)
+
+  pub survivors-none : (k : ℕ) → r ≡ Refused k → 0 ≡ survivors t (voteRows t d able words)
+  survivors-none k = given (Refused k)
 
 -- a member is left out if one of two tests fails, and taken if both pass
 module _ (p q : Bool) (set i : ℕ) (a : Bool) (ea : a ≡ p) where

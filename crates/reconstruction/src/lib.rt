@@ -10,11 +10,11 @@ ghost use Rattle.polynomial.specs.Polynomial.{value};
 ghost use Rattle.members.specs.Members.{size, ownPoints, has, setOf, card, adding};
 ghost use Rattle.shares.specs.Layout.{word};
 ghost use Rattle.decoding.specs.Decoding.{need, find};
-ghost use Rattle.reconstruction.specs.Internal.Steps.{Decodable, Worded, Finished};
+ghost use Rattle.reconstruction.specs.Internal.Steps.{Decodable};
 ghost use Rattle.pruning.specs.Pruning.{survivors};
 ghost use Rattle.lists.specs.Checks.{refusal};
 ghost use Rattle.reconstruction.specs.Answer.{answerOf};
-ghost use Rattle.reconstruction.specs.Reconstruction.{unopened, isQuorum, required, finish, reconstruct as reconstructOf};
+ghost use Rattle.reconstruction.specs.Reconstruction.{unopened, isQuorum, required, openedFrom, finish, reconstruct as reconstructOf};
 ghost use Rattle.reconstruction.specs.Internal.Room.{Room};
 ghost use Rattle.reconstruction.specs.Votes.{fieldShare, usable, tagHolds, accepts, voteRows};
 
@@ -213,34 +213,7 @@ fn meeting_members(values: &[u16], f: &[u16], agreed: u32) -> u32
     set
 }
 
-// Word k: its value is stored, and those of `agreed` that meet its polynomial are left; nobody, if it has none.
-fn open_word(
-    t: usize,
-    d: usize,
-    n: usize,
-    width: usize,
-    shares: &[u16],
-    survived: u32,
-    agreed: u32,
-    k: usize,
-    values: &mut [u16],
-    f: &mut [u16],
-    secret: &mut [u16],
-) -> u32
-    requires { ⌜ Room t d n width (now shares) ⌝ }
-    requires { ⌜ Decodable t d (now shares) survived ⌝ }
-    requires { ⌜ (k < d) × (length (now values) ≡ n) × (length (now f) ≡ suc t) × (length (now secret) ≡ d) ⌝ }
-    ensures { λ r. ⌜ Worded (ownPoints t) t (λ i. word t d (now (shares .entry)) i k) agreed k (now (secret .entry)) (find (ownPoints t) t 1 (λ i j. word t d (now (shares .entry)) i k) survived) r (now (secret .exit)) ⌝ }
-{
-    column(t, d, n, width, shares, k, values);
-    let decoding::Outcome::Found = decoding::decode_near(t, values, survived, agreed, f) else {
-        return 0;
-    };
-    secret[k] = polynomial::evaluate(f, 0);
-    meeting_members(values, f, agreed)
-}
-
-// All words: the members that agree with each word's polynomial, and the secret; nobody, if there are no polynomials that enough agree with.
+// All words, one after the other: the secret, with those of the survivors that meet every word's polynomial; 16 where a word has none, or where too few are left.
 fn open_words(
     t: usize,
     d: usize,
@@ -252,34 +225,30 @@ fn open_words(
     values: &mut [u16],
     f: &mut [u16],
     secret: &mut [u16],
-) -> u32
+) -> Outcome
     requires { ⌜ Room t d n width (now shares) ⌝ }
     requires { ⌜ Decodable t d (now shares) survived ⌝ }
     requires { ⌜ (length (now values) ≡ n) × (length (now f) ≡ suc t) × (length (now secret) ≡ d) × (enough ≡ need t (card (size t) survived)) ⌝ }
-    ensures { λ r. ⌜ Finished (ownPoints t) t d (word t d (now (shares .entry))) survived (find (ownPoints t) t d (word t d (now (shares .entry))) survived) r (now (secret .exit)) ⌝ }
+    ensures { λ r. ⌜ answerOf r (now (secret .exit)) ≡ openedFrom (ownPoints t) t d (word t d (now (shares .entry))) survived (find (ownPoints t) t d (word t d (now (shares .entry))) survived) ⌝ }
 {
     let mut agreed = survived;
     let mut k = 0;
     while k < d {
-        agreed = open_word(
-            t,
-            d,
-            n,
-            width,
-            shares,
-            survived,
-            agreed,
-            k,
-            values,
-            f,
-            secret,
-        );
+        column(t, d, n, width, shares, k, values);
+        let decoding::Outcome::Found = decoding::decode_near(t, values, survived, agreed, f) else {
+            return refuse(secret, 16, survived); // no polynomial
+        };
+        secret[k] = polynomial::evaluate(f, 0);
+        agreed = meeting_members(values, f, agreed);
         if (members::card(agreed) as usize) < enough {
-            return 0;
+            return refuse(secret, 16, survived); // too few are left
         }
         k = k + 1;
     }
-    agreed
+    Outcome::Open {
+        survivors: survived,
+        agreeing: agreed,
+    }
 }
 
 // The same, with room for the values and the coefficients of one word.
@@ -292,11 +261,11 @@ fn open_all(
     survived: u32,
     enough: usize,
     secret: &mut [u16],
-) -> u32
+) -> Outcome
     requires { ⌜ Room t d n width (now shares) ⌝ }
     requires { ⌜ Decodable t d (now shares) survived ⌝ }
     requires { ⌜ (length (now secret) ≡ d) × (enough ≡ need t (card (size t) survived)) ⌝ }
-    ensures { λ r. ⌜ Finished (ownPoints t) t d (word t d (now (shares .entry))) survived (find (ownPoints t) t d (word t d (now (shares .entry))) survived) r (now (secret .exit)) ⌝ }
+    ensures { λ r. ⌜ answerOf r (now (secret .exit)) ≡ openedFrom (ownPoints t) t d (word t d (now (shares .entry))) survived (find (ownPoints t) t d (word t d (now (shares .entry))) survived) ⌝ }
 {
     let mut values = [0u16; 31];
     let mut f = [0u16; 16];
@@ -380,14 +349,7 @@ fn open_shares(
         return refuse(secret, 15, 0);
     }
     let enough = decoding::need(t as u16, members::card(survived));
-    let agreed = open_all(t, d, n, width, shares, survived, enough, secret);
-    if agreed == 0 {
-        return refuse(secret, 16, survived);
-    }
-    Outcome::Open {
-        survivors: survived,
-        agreeing: agreed,
-    }
+    open_all(t, d, n, width, shares, survived, enough, secret)
 }
 
 // Opens the shares of the present members into the secret buffer; refusals 1, 2, 11, 12, 13, 14, 15 and 16.

@@ -1,93 +1,56 @@
--- `reconstruction::open_shares` meets its contract, way by way.
+-- `reconstruction::open_shares` meets its contract: its two tests are those of 14 and 15 in `finish`, and the survivors of the votes can be decoded.
 -- Assumes nothing.
-use mathlib.Core.Path.{ap, _∙_}
-use Rattle.decoding.specs.Decoding.{need}
-use Rattle.reconstruction.proofs.Halves.{finish-14, finish-15, decodable, counted-survivors, finish-16, finish-0}
+use mathlib.Core.Path.{_≡_}
+use Prim.Native.Nat.{ℕ, _≤_, _<_}
+use native.Mathlib.Omega.{arith}
 use borrow.Author.Needs.{needs}
+use Rattle.members.specs.Members.{size, card}
+use Rattle.reconstruction.specs.Reconstruction.{required}
+use Rattle.reconstruction.specs.Votes.{usable}
+use Rattle.reconstruction.proofs.Halves.{usable-counted, finish-14, finish-15, decodable, needed, finish-words}
 use Rattle.reconstruction.proofs.open_shares.Statement.{statement}
 use Rattle.reconstruction.proofs.open_shares.Tie as tie
 
-usable-members-requires : tie.Need-usable-members-requires
-usable-members-requires c κs = search needs
+-- how many members are usable
+abbrev usables : tie.Start → ℕ
+usables start = card (size (start .args .t)) (usable (start .args .t) (start .args .d) (start .args .present) (start .args .shares .now))
 
-card-requires : tie.Need-card-requires
-card-requires c κs = search needs
+counted : (c : tie.After-card) → let start : tie.Start = search in c .card .result ≡ usables start
+counted c = search usable-counted
 
-cast-if1 : tie.Need-cast-if1
-cast-if1 c = search needs
+-- too few for the quorum
+few : (c : tie.Then1) → let start : tie.Start = search in usables start < required (start .args .t) (start .args .quorum)
+few c = let e = counted (search) in omega arith
 
-required-members-requires : tie.Need-required-members-requires
-required-members-requires c κs = search needs
-
-refuse-requires : tie.Need-refuse-requires
-refuse-requires c κs = search needs
-
-same-length : tie.Need-same-length
-same-length c = search needs
-
-returns : tie.Need-returns
-returns c = finish-14 _ _ _ _ _ (c .before .before .before .before .before .before .before .before .before .before .pre .0) (c .before .before .before .before .before .before .before .before .before .before .args .present) (c .before .before .before .before .before .before .before .before .before .before .args .quorum) _ _ _ (c .before .before .before .before .before .before .before .usable-members .ensures) (c .before .before .before .before .before .before .card .ensures) (c .before .before .before .before .before .required-members .ensures) (c .before .before .before .before .if1 .taken) _ _ (c .before .before .before .before .before .before .before .before .before .before .pre .1) (c .before .before .refuse .ensures)
-
-survivors-of-requires : tie.Need-survivors-of-requires
-survivors-of-requires c κs = search needs
-
-refuse-requires-2 : tie.Need-refuse-requires-2
-refuse-requires-2 c κs = search needs
-
-same-length-2 : tie.Need-same-length-2
-same-length-2 c = search needs
-
-returns-2 : tie.Need-returns-2
-returns-2 c = finish-15 _ _ _ _ _ (c .before .before .before .before .before .before .before .before .before .before .before .before .pre .0) (c .before .before .before .before .before .before .before .before .before .before .before .before .args .present) (c .before .before .before .before .before .before .before .before .before .before .before .before .args .quorum) _ _ _ (c .before .before .before .before .before .before .before .before .before .usable-members .ensures) (c .before .before .before .before .before .before .before .before .card .ensures) (c .before .before .before .before .before .before .before .required-members .ensures) (c .before .before .before .before .before .before .if1 .left) _ (c .before .before .before .before .before .survivors-of .ensures) (c .before .before .before .before .if2 .taken) _ _ (c .before .before .before .before .before .before .before .before .before .before .before .before .pre .1) (c .before .before .refuse2 .ensures)
-
-cast-need : tie.Need-cast-need
-cast-need c = search needs
-
-card-requires-2 : tie.Need-card-requires-2
-card-requires-2 c κs = search needs
-
-need-requires : tie.Need-need-requires
-need-requires c κs = search needs
-
-open-all-requires : tie.Need-open-all-requires
-open-all-requires c κs = (c .before .before .before .before .before .before .before .before .before .before .before .pre .0, (decodable _ _ _ _ _ (c .before .before .before .before .before .before .before .before .before .before .before .pre .0) (c .before .before .before .before .before .before .before .before .before .before .before .args .present) (c .before .before .before .before .before .before .before .before .before .before .before .args .quorum) _ _ _ (c .before .before .before .before .before .before .before .before .usable-members .ensures) (c .before .before .before .before .before .before .before .card .ensures) (c .before .before .before .before .before .before .required-members .ensures) (c .before .before .before .before .before .if1 .left) _ (c .before .before .before .before .survivors-of .ensures) (c .before .before .before .if2 .left), (c .before .before .before .before .before .before .before .before .before .before .before .pre .1, c .before .need .ensures ∙ ap (need _) (counted-survivors _ _ _ _ _ (c .before .before .before .before .before .before .before .before .before .before .before .pre .0) (c .before .before .before .before .before .before .before .before .before .before .before .args .present) (c .before .before .before .before .before .before .before .before .before .before .before .args .quorum) _ _ _ (c .before .before .before .before .before .before .before .before .usable-members .ensures) (c .before .before .before .before .before .before .before .card .ensures) (c .before .before .before .before .before .before .required-members .ensures) (c .before .before .before .before .before .if1 .left) _ (c .before .before .before .before .survivors-of .ensures) (c .before .before .before .if2 .left) _ (c .before .before .card2 .ensures)))))
-
-refuse-requires-3 : tie.Need-refuse-requires-3
-refuse-requires-3 c κs = search needs
-
-same-length-3 : tie.Need-same-length-3
-same-length-3 c = search needs
-
-returns-3 : tie.Need-returns-3
-returns-3 c = finish-16 _ _ _ _ _ (c .before .before .before .before .before .before .before .before .before .before .before .before .before .before .before .before .before .before .before .pre .0) (c .before .before .before .before .before .before .before .before .before .before .before .before .before .before .before .before .before .before .before .args .present) (c .before .before .before .before .before .before .before .before .before .before .before .before .before .before .before .before .before .before .before .args .quorum) _ _ _ (c .before .before .before .before .before .before .before .before .before .before .before .before .before .before .before .before .usable-members .ensures) (c .before .before .before .before .before .before .before .before .before .before .before .before .before .before .before .card .ensures) (c .before .before .before .before .before .before .before .before .before .before .before .before .before .before .required-members .ensures) (c .before .before .before .before .before .before .before .before .before .before .before .before .before .if1 .left) _ (c .before .before .before .before .before .before .before .before .before .before .before .before .survivors-of .ensures) (c .before .before .before .before .before .before .before .before .before .before .before .if2 .left) _ _ (c .before .before .before .before .before .before .before .open-all .ensures) (c .before .before .before .before .if3 .taken) _ _ (c .before .before .before .before .before .before .before .open-all .kept .1 .1 .1 .1 .1 .1 .1 .0 ∙ c .before .before .before .before .before .before .before .before .before .before .before .before .before .before .before .before .before .before .before .pre .1) (c .before .before .refuse3 .ensures)
-
-same-length-4 : tie.Need-same-length-4
-same-length-4 c = search needs
-
-returns-4 : tie.Need-returns-4
-returns-4 c = finish-0 _ _ _ _ _ (c .before .before .before .before .before .before .before .before .before .before .before .before .before .before .before .pre .0) (c .before .before .before .before .before .before .before .before .before .before .before .before .before .before .before .args .present) (c .before .before .before .before .before .before .before .before .before .before .before .before .before .before .before .args .quorum) _ _ _ (c .before .before .before .before .before .before .before .before .before .before .before .before .usable-members .ensures) (c .before .before .before .before .before .before .before .before .before .before .before .card .ensures) (c .before .before .before .before .before .before .before .before .before .before .required-members .ensures) (c .before .before .before .before .before .before .before .before .before .if1 .left) _ (c .before .before .before .before .before .before .before .before .survivors-of .ensures) (c .before .before .before .before .before .before .before .if2 .left) _ _ (c .before .before .before .open-all .ensures) (c .if3 .left)
+-- or enough
+met : (c : tie.Else1) → let start : tie.Start = search in required (start .args .t) (start .args .quorum) ≤ usables start
+met c = let e = counted (search) in omega arith
 
 pub open-shares-spec : {M : Type 1} → statement M
 open-shares-spec =
     tie.close
     (tie.spec
-    usable-members-requires
-    card-requires
-    cast-if1
-    required-members-requires
-    refuse-requires
-    same-length
-    returns
-    survivors-of-requires
-    refuse-requires-2
-    same-length-2
-    returns-2
-    cast-need
-    card-requires-2
-    need-requires
-    open-all-requires
-    refuse-requires-3
-    same-length-3
-    returns-3
-    same-length-4
-    returns-4)
+    -- let able = usable_members(t, d, n, width, present, shares)
+    (λ c κs. search needs)
+    -- if (members::card(able) as usize) < required_members(t, quorum)
+    (λ c κs. search needs)
+    (λ c. search needs)
+    (λ c κs. search needs)
+    -- { return refuse(secret, 14, 0) }
+    (λ c κs. search needs)
+    (λ c. search needs)
+    (λ c. search (finish-14, few (search)))
+    -- let survived = survivors_of(t, d, n, width, able, shares)
+    (λ c κs. search needs)
+    -- if survived == 0 { return refuse(secret, 15, 0) }
+    (λ c κs. search needs)
+    (λ c. search needs)
+    (λ c. search (finish-15, met (search)))
+    -- let enough = decoding::need(t as u16, members::card(survived))
+    (λ c. search needs)
+    (λ c κs. search needs)
+    (λ c κs. search needs)
+    -- open_all(t, d, n, width, shares, survived, enough, secret)
+    (λ c κs. (search needs, (search decodable, (search needs, search needed))))
+    (λ c. search needs)
+    (λ c. search (finish-words, met (search))))
