@@ -37,7 +37,7 @@ static int opens(const uint16_t *shares, const uint16_t *secret, uint32_t member
            (unsigned)survivors, (unsigned)agreeing, opened[0], opened[1], opened[2]);
     for (size_t k = 0; k < D; k++)
         if (opened[k] != secret[k]) return 0;
-    return number == 0 && survivors == members && agreeing == members;
+    return number == RUTZEBAM_OK && survivors == members && agreeing == members;
 }
 
 int main(void)
@@ -49,7 +49,7 @@ int main(void)
     draw(random, RANDOM);
     uint16_t number = rutzebam_deal(T, secret, D, random, RANDOM, shares, SHARES);
     printf("dealing: %u\n", number);
-    if (number != 0) return 1;
+    if (number != RUTZEBAM_OK) return 1;
 
     /* the readings may be deleted only once the shares are seen to open to them */
     if (!opens(shares, secret, 31)) return 1;
