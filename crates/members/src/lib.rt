@@ -1,13 +1,35 @@
 // Sets of members as masks of 32 bits: member i, counted from 0, has bit i.
 ghost use mathlib.Core.Path.{_≡_};
-ghost use Prim.Native.Nat.{_<_, _^_};
-ghost use Rattle.members.specs.Members.{isThreshold, has, card, adding, striking, firstOf, common};
+ghost use Prim.Native.Nat.{suc, _<_, _≤_, _^_};
+ghost use lib.ListN.{length};
+ghost use Rattle.lists.specs.Tabulate.{tab};
+ghost use Rattle.members.specs.Members.{isThreshold, size, has, card, adding, striking, firstOf, common};
 
 // A station's threshold is 1 to 15.
 pub fn threshold(t: usize) -> bool
     ensures { λ r. ⌜ r ≡ isThreshold t ⌝ }
 {
     1 <= t && t <= 15
+}
+
+// How many members a station has.
+pub fn size(t: usize) -> usize
+    requires { ⌜ t ≤ 15 ⌝ }
+    ensures { λ r. ⌜ r ≡ size t ⌝ }
+{
+    2 * t + 1
+}
+
+// The members' own points: 1 to n, for n members.
+pub fn own_points(points: &mut [u16])
+    requires { ⌜ length (now points) ≤ 31 ⌝ }
+    ensures { λ r. ⌜ now (points .exit) ≡ tab (length (now (points .entry))) (λ i. suc i) ⌝ }
+{
+    let mut i = 0;
+    while i < points.len() {
+        points[i] = (i + 1) as u16;
+        i = i + 1;
+    }
 }
 
 // The set of one member.

@@ -1,3 +1,4 @@
 pub mod Examples
+pub mod Internal
 pub mod Layout
 pub mod Sample
