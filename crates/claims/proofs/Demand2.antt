@@ -19,7 +19,8 @@ use Rattle.members.specs.Members.{size, ownPoints, has, card}
 use Rattle.members.proofs.Masks.{setOf-ext, setOf-has, subsets-equal, card-setOf, card-mono}
 use Rattle.shares.specs.Layout.{width, word}
 use Rattle.decoding.specs.Decoding.{surplus, agreeing}
-use Rattle.decoding.proofs.Points.{own-distinct, length-own}
+use Rattle.decoding.proofs.Points.{own-distinct}
+use Rattle.members.proofs.Points.{length-own}
 use Rattle.decoding.proofs.Unique.{agrees, agrees-member}
 use Rattle.dealing.specs.Dealing.{polynomial, dealtShares}
 use Rattle.dealing.proofs.Laws.{InRange}

@@ -24,7 +24,8 @@ use Rattle.shares.specs.Layout.{word}
 use Rattle.pruning.specs.Pruning.{Largest, survivors}
 use Rattle.pruning.proofs.Largest.{survivors-largest}
 use Rattle.decoding.specs.Decoding.{surplus, Fits}
-use Rattle.decoding.proofs.Points.{own-distinct, length-own}
+use Rattle.decoding.proofs.Points.{own-distinct}
+use Rattle.members.proofs.Points.{length-own}
 use Rattle.decoding.proofs.Unique.{need-most, agrees, card-agreeing}
 use Rattle.dealing.specs.Dealing.{Dealt, polynomial, dealtShares}
 use Rattle.dealing.proofs.Laws.{polynomial-degree, polynomial-zero, word-value, InRange, accepted-in-range, accepted-shares}

@@ -9,10 +9,9 @@ use native.Mathlib.Omega.{arith}
 use lib.ListN.{length, getD}
 use Rattle.lists.proofs.Tabulate.{tab-ext, tab-getD}
 use Rattle.polynomial.specs.Polynomial.{value}
-use Rattle.polynomial.proofs.Roots.{Distinct}
+use Rattle.polynomial.proofs.Roots.{distinct-tab, Distinct}
 use Rattle.members.specs.Members.{size}
 use Rattle.decoding.specs.Decoding.{agreeing, Fits, nth, find}
-use Rattle.decoding.proofs.Points.{distinct-tab}
 use Rattle.decoding.proofs.Search.{find-found, find-none}
 use Rattle.decoding.proofs.Unique.{fits-agreeing, fits-value}
 use Rattle.reconstruction.specs.Reconstruction.{unopened, atZero, openedFrom}

@@ -13,16 +13,13 @@ use borrow.Author.Tests.{eq-eqb, le-leb, lt-leb}
 use Rattle.lists.specs.Tabulate.{count}
 use Rattle.polynomial.specs.Polynomial.{interpolate, interpolated}
 use Rattle.members.specs.Members.{size, ownPoints, card}
-use Rattle.members.proofs.Masks.{card-more}
-use Rattle.members.proofs.Words.{size-31}
+use Rattle.members.proofs.Words.{size-31, card-32}
 use Rattle.decoding.specs.Internal.Algorithm.{passed, sound, chosen, candidate, Gathered}
 use Rattle.decoding.specs.Decoding.{need, agreeing, find, Decoded, undecoded, decodedFrom}
-use Rattle.decoding.proofs.Points.{own-distinct, length-own}
+use Rattle.decoding.proofs.Points.{own-distinct}
+use Rattle.members.proofs.Points.{length-own}
 use Rattle.decoding.proofs.Search.{length-interpolated}
 use Rattle.decoding.proofs.Locator.{few-sound, by-candidate}
-
-pub card-32 : (t set : ℕ) → t ≤ 15 → set < 2 ^ size t → card 32 set ≡ card (size t) set
-card-32 t set small h = card-more (size t) 32 set h (omega (arith, size-31 t small))
 
 none-left : (t : ℕ) (o : Option (List (List ℕ))) (answer : Decoded) (len : ℕ) → o ≡ none → len ≡ suc t → answer ≡ undecoded len 16 → answer ≡ decodedFrom (suc t) o
 unfolding decodedFrom

@@ -17,8 +17,9 @@ use Rattle.polynomial.proofs.Newton.{interpolated-yes}
 use Rattle.members.specs.Members.{size, ownPoints, card}
 use Rattle.decoding.specs.Decoding.{need, agreeing, Fits, find, decodedFrom}
 use Rattle.decoding.specs.Internal.Hint.{foundWith, Guessed}
-use Rattle.decoding.proofs.Answers.{card-32}
-use Rattle.decoding.proofs.Points.{own-distinct, length-own}
+use Rattle.members.proofs.Words.{card-32}
+use Rattle.decoding.proofs.Points.{own-distinct}
+use Rattle.members.proofs.Points.{length-own}
 use Rattle.decoding.proofs.Search.{find-is}
 
 pub no-guess : (t : ℕ) (values : List ℕ) (set : ℕ) (g : List ℕ) → Guessed t values set false g

@@ -23,11 +23,11 @@ use Rattle.field.proofs.Congruence.{_≈_, same-refl, same-sym, same-trans, sam
 use Rattle.field.proofs.Operations.{difference-same, difference-word, product-same}
 use Rattle.polynomial.specs.Polynomial.{eval, value}
 use Rattle.polynomial.proofs.Evaluation.{value-same}
-use Rattle.polynomial.proofs.Roots.{Distinct}
+use Rattle.polynomial.proofs.Roots.{distinct-sub, Distinct}
 use Rattle.members.specs.Members.{has}
 use Rattle.members.proofs.Listed.{passing}
 use Rattle.decoding.specs.Internal.Algorithm.{raised, mixed, offBy, State, start, firstUp, secondUp, firstTurn, stepBy, stepped, passed}
-use Rattle.decoding.proofs.Points.{pointsOf, distinct-sub, passing-points, count-points, at-points}
+use Rattle.decoding.proofs.Points.{pointsOf, passing-points, count-points, at-points}
 use Rattle.decoding.proofs.Coefficients.{From, eval-low, no-coefficient, from-raised, raised-lead, raised-zeros, length-raised, eval-raised, length-mixed, eval-mixed, mixed-zero, mixed-lead}
 
 -- ---- over numbers: a pair at a point passed before, and at the new one

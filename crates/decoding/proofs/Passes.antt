@@ -11,7 +11,8 @@ use Rattle.lists.proofs.Count.{count-le}
 use Rattle.members.specs.Members.{size, ownPoints, has}
 use Rattle.members.proofs.Words.{size-31}
 use Rattle.decoding.specs.Internal.Algorithm.{State, start, stepped, passed}
-use Rattle.decoding.proofs.Points.{own-distinct, length-own, own-point}
+use Rattle.decoding.proofs.Points.{own-distinct}
+use Rattle.members.proofs.Points.{length-own, own-point}
 use Rattle.decoding.proofs.Invariant.{Holds, passed-holds}
 use Rattle.decoding.proofs.Steps.{pairs}
 

@@ -15,17 +15,11 @@ use Rattle.lists.proofs.Choose.{every-sub, every-mapped, sub-map}
 use Rattle.field.proofs.Congruence.{_≈_}
 use Rattle.members.specs.Members.{size, ownPoints}
 use Rattle.members.proofs.Listed.{passing, passing-sub, passing-every, passing-below, length-passing}
-use Rattle.polynomial.proofs.Roots.{Distinct, distinct-none, distinct-more}
+use Rattle.polynomial.proofs.Roots.{Distinct, distinct-sub, distinct-tab}
 
 -- the points of the members ms
 abbrev pub pointsOf : List ℕ → List ℕ → List ℕ
 pointsOf xs ms = map (λ i. getD xs i 0) ms
-
-pub distinct-sub : {l m : List ℕ} → Sublistᴰ l m → Distinct m → Distinct l
-distinct-sub Sublistᴰ·slnil d = d
-distinct-sub (Sublistᴰ·cons s) (distinct-more n d) = distinct-sub s d
-distinct-sub (Sublistᴰ·cons-cons {l₁ = l} e s) (distinct-more n d) =
-    distinct-more (subst (λ (x : ℕ). Every (λ a. a ≈ x → ⊥) l) (sym e) (every-sub s n)) (distinct-sub s d)
 
 pub all-points : (xs : List ℕ) (n : ℕ) → length xs ≡ n → pointsOf xs (tab n (λ i. i)) ≡ xs
 all-points xs n e = map-tab (λ i. getD xs i 0) n (λ i. i) ∙ ap (λ (m : ℕ). tab m (λ i. getD xs i 0)) (sym e) ∙ tab-getD xs 0
@@ -45,24 +39,7 @@ module _ (xs : List ℕ) (n : ℕ) (long : length xs ≡ n) (distinct : Distinct
   pub at-points : {P : ℕ → Type 0} → ((i : ℕ) → i < n → p i ≡ true → P (getD xs i 0)) → Every P (pointsOf xs (passing n p))
   at-points h = every-mapped (λ i. getD xs i 0) (every-both h (passing-below n p) (passing-every n p))
 
--- ---- points given by a rule, and the members' own
-
-pub distinct-tab : (n : ℕ) (f : ℕ → ℕ) → ((i j : ℕ) → i < n → j < n → f i ≈ f j → i ≡ j) → Distinct (tab n f)
-unfolding tab
-distinct-tab zero f h = distinct-none
-distinct-tab (suc n) f h =
-    distinct-more
-    (every-tab n (λ i. f (suc i)) (λ i k e. suc-ne-zero i (h (suc i) 0 (suc-le-suc k) (suc-le-suc zero-le) e)))
-    (distinct-tab n (λ i. f (suc i)) (λ i j k l e. suc-inj (h (suc i) (suc j) (suc-le-suc k) (suc-le-suc l) e)))
-
+-- the members' own
 pub own-distinct : (t : ℕ) → t ≤ 15 → Distinct (ownPoints t)
 unfolding ownPoints size
 own-distinct t h = distinct-tab (2 * t + 1) (λ i. suc i) (λ i j k l e. omega arith)
-
-pub length-own : (t : ℕ) → length (ownPoints t) ≡ size t
-unfolding ownPoints
-length-own t = length-tab (size t) (λ i. suc i)
-
-pub own-point : (t i : ℕ) → i < size t → getD (ownPoints t) i 0 ≡ suc i
-unfolding ownPoints
-own-point t i h = getD-tab (size t) (λ j. suc j) i 0 h

@@ -16,7 +16,7 @@ use Rattle.field.specs.Field.{isFieldWord}
 use Rattle.members.specs.Members.{isThreshold, size, ownPoints, has, isSet, card, firstOf}
 use Rattle.members.proofs.Words.{size-le, size-of, firstOf-isSet}
 use Rattle.decoding.specs.Decoding.{find, Decoded, undecoded, decodedFrom, decode}
-use Rattle.decoding.proofs.Answers.{card-32}
+use Rattle.members.proofs.Words.{card-32}
 
 -- the value of member i, if it is in the set, is a field word
 abbrev pub judgedAt : List ℕ → ℕ → ℕ → Bool

@@ -18,12 +18,12 @@ use Rattle.lists.proofs.Choose.{every-sub, every-mapped, take-sub, sub-chosen, 
 use Rattle.field.specs.Field.{prime}
 use Rattle.field.proofs.Congruence.{_≈_, same-sym, same-trans, same-eq}
 use Rattle.polynomial.specs.Polynomial.{eval, interpolate}
-use Rattle.polynomial.proofs.Roots.{Distinct, agree, agree-equal}
+use Rattle.polynomial.proofs.Roots.{distinct-sub, Distinct, agree, agree-equal}
 use Rattle.polynomial.proofs.Interpolation.{Meets, meets-more, meets, length-interpolate, interpolate-words}
 use Rattle.members.specs.Members.{size, has, card, membersOf}
 use Rattle.members.proofs.Listed.{passing, passing-sub, passing-every, length-passing, passing-members}
 use Rattle.decoding.specs.Decoding.{need, agreeing, Fits, nth, through, find}
-use Rattle.decoding.proofs.Points.{pointsOf, distinct-sub, distinct-points}
+use Rattle.decoding.proofs.Points.{pointsOf, distinct-points}
 use Rattle.decoding.proofs.Unique.{need-least, agrees, agrees-member, agrees-meets, card-agreeing, agreeing-same, fits-same}
 
 -- what a search that finds fs has found

@@ -22,7 +22,7 @@ use Rattle.members.specs.Members.{size, ownPoints, has, card}
 use Rattle.members.proofs.Listed.{passing, length-passing, passing-more, passing-prefix}
 use Rattle.decoding.specs.Internal.Algorithm.{sound, chosen, Gathered}
 use Rattle.decoding.specs.Decoding.{agreeing}
-use Rattle.decoding.proofs.Points.{own-point}
+use Rattle.members.proofs.Points.{own-point}
 use Rattle.decoding.proofs.Unique.{agrees, card-agreeing}
 
 -- ---- a test of one member of the set

@@ -2,4 +2,5 @@
 pub mod Examples
 pub mod Listed
 pub mod Masks
+pub mod Points
 pub mod Words

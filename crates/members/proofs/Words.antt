@@ -16,8 +16,8 @@ use Rattle.lists.specs.Tabulate.{count}
 use Rattle.lists.proofs.Bools.{test, or-no, or-yes, and-no, and-not}
 use Rattle.lists.proofs.Checks.{within-high}
 use Rattle.lists.proofs.Count.{count-more}
-use Rattle.members.specs.Members.{isThreshold, size, has, setOf, isSet, adding, striking, firstOf, common}
-use Rattle.members.proofs.Masks.{has-setOf, setOf-lt, setOf-has, setOf-ext, same-members, has-above, has-or, has-xor, has-power, has-shift, ones-and, suc-everyone}
+use Rattle.members.specs.Members.{isThreshold, size, has, setOf, isSet, card, adding, striking, firstOf, common}
+use Rattle.members.proofs.Masks.{has-setOf, setOf-lt, setOf-has, setOf-ext, same-members, has-above, has-or, has-xor, has-power, has-shift, ones-and, suc-everyone, card-more}
 
 -- ---- what the code computes
 
@@ -167,3 +167,7 @@ pub setOf-none : (n : ℕ) (p : ℕ → Bool) → ((i : ℕ) → i < n → p i �
 unfolding setOf
 setOf-none zero p h = refl
 setOf-none (suc n) p h = rw (h 0 (suc-le-suc zero-le), setOf-none n (λ i. p (suc i)) (λ i l. h (suc i) (suc-le-suc l)))
+
+-- all of a mask's bits are those of the n members, where it has none beyond
+pub card-32 : (t set : ℕ) → t ≤ 15 → set < 2 ^ size t → card 32 set ≡ card (size t) set
+card-32 t set small h = card-more (size t) 32 set h (omega (arith, size-31 t small))

@@ -1,13 +1,16 @@
 -- A polynomial that is 0 at as many distinct points as it has coefficients is 0. So two polynomials with at most n coefficients that agree at
 -- n distinct points are the same.
 -- Assumes nothing.
-use mathlib.Core.Path.{_≡_, refl, sym, ap, ap₂, _∙_}
+use mathlib.Core.Path.{_≡_, refl, sym, ap, ap₂, _∙_, subst}
 use mathlib.Core.Logic.{_⊎_, inl, inr}
-use mathlib.Core.List.{List, [], _∷_}
+use mathlib.Core.List.{List, [], _∷_, Sublistᴰ, Sublistᴰ·slnil, Sublistᴰ·cons, Sublistᴰ·cons-cons}
 use Prim.Native.Nat.{ℕ, zero, suc, _+_, _*_, _%_, _≤_, _<_, zero-le, suc-le-suc}
 use native.Mathlib.Nat.{mul-zero, mul-comm, not-suc-le-zero, le-of-suc-le-suc, le-of-eq, le-trans, suc-ne-zero, suc-inj}
 use native.Mathlib.Omega.{arith}
 use lib.ListN.{length}
+use Rattle.lists.specs.Tabulate.{tab}
+use Rattle.lists.proofs.Blocks.{every-tab}
+use Rattle.lists.proofs.Choose.{every-sub}
 use Rattle.lists.proofs.Every.{Every, none, more, every-map, every-both}
 use Rattle.field.specs.Field.{prime}
 use Rattle.field.proofs.Congruence.{_≈_, same-refl, same-sym, same-trans, same-eq, eq-same, reduced, mult, times, _⊕_, _⊗_, lc}
@@ -101,3 +104,19 @@ agree-equal f g xs hf hg wf wg d v =
     same-coefficients f g (hf ∙ sym hg) wf wg
     (roots xs (combine 1 f 65520 g) (length-combine 1 f 65520 g (length xs) (le-of-eq hf) (le-of-eq hg)) d
     (every-map (λ x h. same-trans (eval-combine 1 f 65520 g x) (to-difference (eval f x) (eval g x) h)) v))
+
+-- some of distinct points
+pub distinct-sub : {l m : List ℕ} → Sublistᴰ l m → Distinct m → Distinct l
+distinct-sub Sublistᴰ·slnil d = d
+distinct-sub (Sublistᴰ·cons s) (distinct-more n d) = distinct-sub s d
+distinct-sub (Sublistᴰ·cons-cons {l₁ = l} e s) (distinct-more n d) =
+    distinct-more (subst (λ (x : ℕ). Every (λ a. a ≈ x → ⊥) l) (sym e) (every-sub s n)) (distinct-sub s d)
+
+-- points given by a rule
+pub distinct-tab : (n : ℕ) (f : ℕ → ℕ) → ((i j : ℕ) → i < n → j < n → f i ≈ f j → i ≡ j) → Distinct (tab n f)
+unfolding tab
+distinct-tab zero f h = distinct-none
+distinct-tab (suc n) f h =
+    distinct-more
+    (every-tab n (λ i. f (suc i)) (λ i k e. suc-ne-zero i (h (suc i) 0 (suc-le-suc k) (suc-le-suc zero-le) e)))
+    (distinct-tab n (λ i. f (suc i)) (λ i j k l e. suc-inj (h (suc i) (suc j) (suc-le-suc k) (suc-le-suc l) e)))

@@ -27,9 +27,10 @@ use Rattle.decoding.specs.declared.Outcome.{Outcome}
 use Rattle.decoding.specs.declared.Outcome.the-variants.{Refused}
 use Rattle.decoding.specs.Answer.{answerOf}
 use Rattle.decoding.specs.Decoding.{surplus, need, agreeing, nth, find, decode}
-use Rattle.decoding.proofs.Answers.{card-32}
+use Rattle.members.proofs.Words.{card-32}
 use Rattle.decoding.proofs.Apart.{too-few}
-use Rattle.decoding.proofs.Points.{own-distinct, length-own}
+use Rattle.decoding.proofs.Points.{own-distinct}
+use Rattle.members.proofs.Points.{length-own}
 use Rattle.decoding.proofs.Unique.{agreeing-same}
 use Rattle.decoding.proofs.Words.{wordAt, no-word, by-words}
 use Rattle.reconstruction.specs.Reconstruction.{Opened, unopened, atZero, openedFrom}

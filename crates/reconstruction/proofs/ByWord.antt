@@ -27,7 +27,8 @@ use Rattle.decoding.specs.declared.Outcome.the-variants.{Found, Refused}
 use Rattle.decoding.specs.Answer.{answerOf}
 use Rattle.decoding.specs.Decoding.{Decoded, nth, find, undecoded, decodedFrom, decode}
 use Rattle.decoding.proofs.Apart.{find-ext}
-use Rattle.decoding.proofs.Points.{own-distinct, length-own, own-point}
+use Rattle.decoding.proofs.Points.{own-distinct}
+use Rattle.members.proofs.Points.{length-own, own-point}
 use Rattle.decoding.proofs.Refusals.{judgedAt, accepts}
 use Rattle.decoding.proofs.Search.{find-found}
 use Rattle.decoding.proofs.Words.{wordAt}

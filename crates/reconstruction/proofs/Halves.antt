@@ -14,7 +14,7 @@ use Rattle.shares.specs.Layout.{width, word}
 use Rattle.pruning.specs.Pruning.{survivors}
 use Rattle.pruning.proofs.Largest.{survivors-largest, survivors-size}
 use Rattle.decoding.specs.Decoding.{need, find}
-use Rattle.decoding.proofs.Answers.{card-32}
+use Rattle.members.proofs.Words.{card-32}
 use Rattle.reconstruction.specs.Reconstruction.{Opened, unopened, required, openedFrom, finish}
 use Rattle.reconstruction.specs.Internal.Room.{Room}
 use Rattle.reconstruction.specs.Internal.Steps.{Decodable}

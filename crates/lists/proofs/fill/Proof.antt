@@ -7,6 +7,7 @@ use native.Mathlib.Numerals.{add-one}
 use native.Mathlib.Omega.{arith}
 use lib.ListN.{length, take, set, length-set, replicate, replicate-append-replicate}
 use lib.Seq.{take-suc-set, take-all}
+use borrow.Author.Needs.{needs}
 use Rattle.lists.proofs.fill.Statement.{statement}
 use Rattle.lists.proofs.fill.Tie as tie
 
@@ -41,41 +42,17 @@ Inv-loop buffer₀ word i₀ buffer i = Turn word (length buffer₀) buffer i
 abbrev μ-loop : tie.MeasureT-loop
 μ-loop buffer₀ word i₀ buffer i = length buffer - i
 
-loop-holds : tie.Need-loop-holds Inv-loop μ-loop
-loop-holds c = first _ _
-
-mul-buffer : tie.Need-mul-buffer Inv-loop μ-loop
-mul-buffer c = omega arith
-
-slice-write-buffer : tie.Need-slice-write-buffer Inv-loop μ-loop
-slice-write-buffer c = omega arith
-
-add-i : tie.Need-add-i Inv-loop μ-loop
-add-i c = omega arith
-
-loop-less : tie.Need-loop-less Inv-loop μ-loop
-loop-less c = simp length-set (omega arith)
-
-loop-again : tie.Need-loop-again Inv-loop μ-loop
-loop-again c = next _ _ _ _ (c .loop-test .taken) (c .before .loop .inv)
-
-same-length : tie.Need-same-length Inv-loop μ-loop
-same-length c = c .before .loop .inv .kept
-
-returns : tie.Need-returns Inv-loop μ-loop
-returns c = last _ _ _ _ (c .loop-test .left) (c .before .loop .inv)
-
 pub fill-spec : {M : Type 1} → statement M
 fill-spec =
     tie.close
     (tie.spec
     Inv-loop
     μ-loop
-    loop-holds
-    mul-buffer
-    slice-write-buffer
-    add-i
-    loop-less
-    loop-again
-    same-length
-    returns)
+    (λ c. first _ _)
+    (λ c. omega arith)
+    (λ c. omega arith)
+    (λ c. omega arith)
+    (λ c. simp length-set (omega arith))
+    (λ c. search next)
+    (λ c. search needs)
+    (λ c. search last))

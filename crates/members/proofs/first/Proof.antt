@@ -8,17 +8,16 @@ use Rattle.members.proofs.Words.{firstOf-power, firstOf-beyond}
 use Rattle.members.proofs.first.Statement.{statement}
 use Rattle.members.proofs.first.Tie as tie
 
-returns : tie.Need-returns
-returns c = omega (arith, firstOf-beyond (c .before .args .n) (c .if1 .taken))
-
-only-requires : tie.Need-only-requires
-only-requires c κs = search needs
-
-sub-result : tie.Need-sub-result
-sub-result c = omega (arith, pow-pos (c .before .before .args .n))
-
 returns-2 : tie.Need-returns-2
-returns-2 c = omega (arith, firstOf-power (c .before .before .args .n) (le-of-lt (c .before .if1 .left)))
+returns-2 c =
+    let (entry, at-if1) : tie.Start × tie.Else1 = (search, search) in
+    omega (arith, firstOf-power (entry .args .n) (le-of-lt (at-if1 .if1 .left)))
 
 pub first-spec : {M : Type 1} → statement M
-first-spec = tie.close (tie.spec returns only-requires sub-result returns-2)
+first-spec =
+    tie.close
+    (tie.spec
+    (λ c. let entry : tie.Start = search in omega (arith, firstOf-beyond (entry .args .n) (c .if1 .taken)))
+    (λ c κs. search needs)
+    (λ c. let entry : tie.Start = search in omega (arith, pow-pos (entry .args .n)))
+    returns-2)

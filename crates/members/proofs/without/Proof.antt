@@ -9,23 +9,24 @@ use Rattle.members.proofs.Words.{striking-xor, striking-absent}
 use Rattle.members.proofs.without.Statement.{statement}
 use Rattle.members.proofs.without.Tie as tie
 
-has-requires : tie.Need-has-requires
-has-requires c κs = search needs
-
 only-requires : tie.Need-only-requires
 only-requires c κs =
-    has-lt 32 (c .before .before .args .set) (c .before .before .args .i) (c .before .before .fits .set .fits) (sym (c .before .has .ensures) ∙ c .if1 .taken)
+    let (entry, at-has) : tie.Start × tie.After-has = (search, search) in
+    has-lt 32 (entry .args .set) (entry .args .i) (entry .fits .set .fits) (sym (at-has .has .ensures) ∙ c .if1 .taken)
 
 returns : tie.Need-returns
 returns c =
-    let y = sym (c .before .before .has .ensures) ∙ c .before .if1 .taken in
-    let set = c .before .before .before .args .set in
-    let i = c .before .before .before .args .i in
-    let fits = c .before .before .before .fits .set .fits in
+    let (entry, at-has, at-if1) : tie.Start × tie.After-has × tie.Then1 = (search, search, search) in
+    let y = sym (at-has .has .ensures) ∙ at-if1 .if1 .taken in
+    let set = entry .args .set in
+    let i = entry .args .i in
+    let fits = entry .fits .set .fits in
     ap (λ (x : ℕ). bitXor set x) (c .only .ensures) ∙ striking-xor set i fits (has-lt 32 set i fits y) y
 
 returns-2 : tie.Need-returns-2
-returns-2 c = striking-absent (c .before .before .args .set) (c .before .before .args .i) (c .before .before .fits .set .fits) (sym (c .before .has .ensures) ∙ c .if1 .left)
+returns-2 c =
+    let (entry, at-has) : tie.Start × tie.After-has = (search, search) in
+    striking-absent (entry .args .set) (entry .args .i) (entry .fits .set .fits) (sym (at-has .has .ensures) ∙ c .if1 .left)
 
 pub without-spec : {M : Type 1} → statement M
-without-spec = tie.close (tie.spec has-requires only-requires returns returns-2)
+without-spec = tie.close (tie.spec (λ c κs. search needs) only-requires returns returns-2)
