@@ -86,48 +86,58 @@ fn number(o: Outcome) -> u16 {
     }
 }
 
-// One word: t, the set, the errors, the number, the buffer.
-fn run(
+// A word to decode: how many of the set's members have a wrong value, what it is made from, and whether the wrong values lie on one other polynomial.
+struct Case {
     t: usize,
     set: u32,
     errors: usize,
     seed: u16,
     far: bool,
-    f: &mut [u16],
-    g: &mut [u16],
-    values: &mut [u16],
-    out: &mut [u16],
-) {
-    fill(f, seed);
-    fill(g, next(seed));
-    values_of(f, set, values);
-    spoil(g, set, values, errors, seed as usize, far);
-    let o = decoding::decode(t, values, set, out);
-    field((t % 32) as u32);
-    field(set);
-    field((errors % 32) as u32);
-    field(number(o) as u32);
-    show(out);
 }
 
-// The same, with buffers that fit.
-fn word(t: usize, set: u32, errors: usize, seed: u16, far: bool) {
-    if 15 < t {
-        return;
-    }
-    let mut f = [0u16; 16];
-    let mut g = [0u16; 16];
-    let mut values = [0u16; 31];
-    let mut out = [0u16; 16];
-    run(
+fn case_of(t: usize, set: u32, errors: usize, seed: u16, far: bool) -> Case {
+    Case {
         t,
         set,
         errors,
         seed,
         far,
+    }
+}
+
+// One word: t, the set, the errors, the number, the buffer.
+fn run(case: Case, f: &mut [u16], g: &mut [u16], values: &mut [u16], out: &mut [u16]) {
+    let t = case.t;
+    let set = case.set;
+    let seed = case.seed;
+    fill(f, seed);
+    fill(g, next(seed));
+    values_of(f, set, values);
+    spoil(g, set, values, case.errors, seed as usize, case.far);
+    let o = decoding::decode(t, values, set, out);
+    field((t % 32) as u32);
+    field(set);
+    field((case.errors % 32) as u32);
+    field(number(o) as u32);
+    show(out);
+}
+
+// The same, with buffers that fit.
+fn word(case: Case) {
+    let t = case.t;
+    if 15 < t {
+        return;
+    }
+    let n = members::size(t);
+    let mut f = [0u16; 16];
+    let mut g = [0u16; 16];
+    let mut values = [0u16; 31];
+    let mut out = [0u16; 16];
+    run(
+        case,
         &mut f[..t + 1],
         &mut g[..t + 1],
-        &mut values[..2 * t + 1],
+        &mut values[..n],
         &mut out[..t + 1],
     );
 }
@@ -139,11 +149,11 @@ fn words(t: usize, set: u32, seed: u16) {
         return;
     }
     let half = (s - t - 1) / 2;
-    word(t, set, 0, seed, false);
-    word(t, set, half, next(seed), false);
-    word(t, set, half, next(seed), true);
-    word(t, set, half + 1, seed, false);
-    word(t, set, half + 1, seed, true);
+    word(case_of(t, set, 0, seed, false));
+    word(case_of(t, set, half, next(seed), false));
+    word(case_of(t, set, half, next(seed), true));
+    word(case_of(t, set, half + 1, seed, false));
+    word(case_of(t, set, half + 1, seed, true));
 }
 
 // All n members, and some of them.
@@ -151,7 +161,7 @@ fn sets(t: usize, seed: u16) {
     if 15 < t {
         return;
     }
-    let all = members::first(2 * t + 1);
+    let all = members::first(members::size(t));
     words(t, all, seed);
     words(t, all & 4294967291, next(seed));
     words(t, all & 3722304989, next(seed));

@@ -18,13 +18,13 @@ same-length : tie.Need-same-length
 same-length c = search needs
 
 returns : tie.Need-returns
-returns c = decodes _ _ _ _ _ (c .before .before .before .before .decode .ensures) (c .enum-told .given .1)
+returns c = search decodes
 
 same-length-2 : tie.Need-same-length-2
 same-length-2 c = search needs
 
 returns-2 : tie.Need-returns-2
-returns-2 c = decode-refuses _ _ _ _ _ (c .before .before .before .before .before .decode .ensures) _ (c .before .number .given .1)
+returns-2 c = search decode-refuses
 
 pub rutzebam-decode-spec : {M : Type 1} → statement M
 rutzebam-decode-spec =

@@ -18,13 +18,13 @@ same-length : tie.Need-same-length
 same-length c = search needs
 
 returns : tie.Need-returns
-returns c = opens _ _ _ _ _ _ (c .before .before .before .before .before .reconstruct .ensures) _ _ (c .before .survived .given .1)
+returns c = search opens
 
 same-length-2 : tie.Need-same-length-2
 same-length-2 c = search needs
 
 returns-2 : tie.Need-returns-2
-returns-2 c = open-refuses _ _ _ _ _ _ (c .before .before .before .before .before .reconstruct .ensures) _ _ (c .before .number .given .1)
+returns-2 c = search open-refuses
 
 pub rutzebam-open-spec : {M : Type 1} → statement M
 rutzebam-open-spec =

@@ -15,10 +15,10 @@ enum-known-number : tie.Need-enum-known-number
 enum-known-number c = search needs
 
 returns : tie.Need-returns
-returns c = prunes _ _ (c .before .before .before .prune .ensures) _ (c .before .set .given .1)
+returns c = search prunes
 
 returns-2 : tie.Need-returns-2
-returns-2 c = prune-refuses _ _ (c .before .before .before .prune .ensures) _ (c .before .number .given .1)
+returns-2 c = search prune-refuses
 
 pub rutzebam-prune-spec : {M : Type 1} → statement M
 rutzebam-prune-spec =

@@ -18,13 +18,13 @@ same-length : tie.Need-same-length
 same-length c = search needs
 
 returns : tie.Need-returns
-returns c = reads _ _ _ (c .before .before .before .before .before .read .ensures) _ _ _ _ (c .before .threshold .given .1)
+returns c = search reads
 
 same-length-2 : tie.Need-same-length-2
 same-length-2 c = search needs
 
 returns-2 : tie.Need-returns-2
-returns-2 c = read-refuses _ _ _ (c .before .before .before .before .before .read .ensures) _ (c .before .number .given .1)
+returns-2 c = search read-refuses
 
 pub rutzebam-read-spec : {M : Type 1} → statement M
 rutzebam-read-spec =
