@@ -56,10 +56,6 @@ pub and-no : (a b : Bool) → b ≡ false → a && b ≡ false
 and-no true b h = h
 and-no false b h = refl
 
-pub and-not : (a b : Bool) → b ≡ false → a && not b ≡ a
-and-not true b h = rw h
-and-not false b h = refl
-
 pub or-left : (a b : Bool) → a ≡ true → a || b ≡ true
 or-left a b h = rw h
 

@@ -1,15 +1,13 @@
 -- Laws of `count`.
 -- Assumes nothing.
-use mathlib.Core.Path.{_≡_, refl, sym, ap, ap₂, _∙_, subst}
-use mathlib.Core.Logic.{_⊎_, inl, inr}
+use mathlib.Core.Path.{_≡_, refl, ap, ap₂}
+use mathlib.Core.Logic.{inl, inr}
 use mathlib.Core.Bool.{Bool, true, false, _&&_, not, cond, false≢true}
 use Prim.Native.Nat.{ℕ, zero, suc, _+_, _≤_, _<_, zero-le, suc-le-suc}
 use native.Mathlib.Nat.{not-suc-le-zero, le-of-suc-le-suc, not-le-of-lt}
 use native.Mathlib.Omega.{arith}
-use lib.Dec.{eqb, eqb·zero-suc, eqb·suc-zero, eqb·suc-suc}
-use borrow.Author.Tests.{eqb-true}
 use Rattle.lists.specs.Tabulate.{count}
-use Rattle.lists.proofs.Bools.{test, and-no}
+use Rattle.lists.proofs.Bools.{test}
 
 -- a test as a number: 1 where it passes
 abbrev pub toℕ : Bool → ℕ
@@ -117,22 +115,3 @@ pub count-last : (n : ℕ) (p : ℕ → Bool) → count (suc n) p ≡ count n p 
 unfolding count
 count-last zero p = omega arith
 count-last (suc n) p = omega (arith, count-last n (λ i. p (suc i)))
-
--- a test that passes at one place only
-pub count-one : (n k : ℕ) → k < n → count n (λ i. eqb i k) ≡ 1
-unfolding count
-count-one zero k h = absurd (not-suc-le-zero h)
-count-one (suc n) zero h = ap (λ (c : ℕ). 1 + c) (count-none n (λ i. eqb (suc i) 0) (λ i l. eqb·suc-zero i))
-count-one (suc n) (suc k) h =
-    ap₂ (λ (b : Bool) (c : ℕ). toℕ b + c) (eqb·zero-suc k)
-    (count-ext n (λ i. eqb (suc i) (suc k)) (λ i. eqb i k) (λ i l. eqb·suc-suc i k) ∙ count-one n k (le-of-suc-le-suc h))
-
--- with one place that passes struck, a test passes once less
-pub count-strike : (n : ℕ) (p : ℕ → Bool) (k : ℕ) → k < n → p k ≡ true → count n p ≡ suc (count n (λ i. p i && not (eqb i k)))
-count-strike n p k h y =
-    let e : count n (λ i. p i && eqb i k) ≡ 1 = count-ext n (λ i. p i && eqb i k) (λ i. eqb i k) (λ i l. only i (test (eqb i k))) ∙ count-one n k h in
-    omega (arith, e, count-split n p (λ i. eqb i k))
-  where
-    only : (i : ℕ) → (eqb i k ≡ true) ⊎ (eqb i k ≡ false) → p i && eqb i k ≡ eqb i k
-    only i (inl e) = ap (λ (j : ℕ). p j && eqb i k) (eqb-true i k e) ∙ rw (y, e)
-    only i (inr e) = and-no (p i) (eqb i k) e ∙ sym e

@@ -1,13 +1,12 @@
 -- Loops that write a list in place: what is done stands before what is left.
 -- Assumes nothing.
-use mathlib.Core.Path.{_≡_, refl, sym, ap, ap₂, _∙_}
+use mathlib.Core.Path.{_≡_, sym, ap, _∙_}
 use mathlib.Core.List.{List, [], _∷_, _++_, append-assoc}
-use Prim.Native.Nat.{ℕ, zero, suc, _+_, _≤_, _<_}
-use native.Mathlib.Nat.{le-refl}
+use Prim.Native.Nat.{ℕ, _+_, _<_}
 use native.Mathlib.Numerals.{add-one}
 use native.Mathlib.Omega.{arith}
 use lib.ListN.{length, take, drop, getD, set}
-use lib.Seq.{take-suc-set, drop-set-lt, drop-cons, append-snoc, set-split, getD-set-other}
+use lib.Seq.{take-suc-set, drop-set-lt, drop-cons, getD-set-other}
 
 module _ {A : Type 0} (l : List A) (i : ℕ) (w : A) (h : i < length l) where
   -- the word written at i is the last of what is done

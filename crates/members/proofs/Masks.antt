@@ -1,20 +1,18 @@
 -- Laws of sets of members as masks.
 -- Assumes nothing.
 use mathlib.Core.Path.{_≡_, refl, sym, ap, ap₂, _∙_}
-use mathlib.Core.Logic.{inl, inr}
-use mathlib.Core.Bool.{Bool, true, false, _&&_, _||_, not, cond}
+use mathlib.Core.Bool.{Bool, true, false, _&&_, _||_, not}
 use Prim.Native.Nat.{ℕ, zero, suc, _+_, _*_, _/_, _%_, _^_, _≤_, _<_, min, max, zero-le, suc-le-suc}
 use native.Mathlib.Nat.{not-suc-le-zero, le-of-suc-le-suc, le-trans, mod-lt, div-one, zero-lt-suc}
 use native.Mathlib.Omega.{arith}
-use lib.Dec.{eqb, ltb, eqb·zero-suc, eqb·suc-zero, eqb·suc-suc}
-use borrow.Author.Tests.{ltb-true, ltb-false}
+use lib.Dec.{eqb, eqb·zero-suc, eqb·suc-zero, eqb·suc-suc}
 use lib.Arith.{lt-one}
 use lib.Pow.{pow-pos, shr-shr}
-use lib.Bits.{bitAnd, bitOr, bitXor, differ, and-step, or-step, xor-step, and-lt}
+use lib.Bits.{bitAnd, bitOr, and-step, or-step, and-lt}
 use lib.Count.{ones, ones-step}
 use Rattle.lists.specs.Tabulate.{count}
 use Rattle.lists.proofs.Bools.{test, clash, same-test}
-use Rattle.lists.proofs.Count.{toℕ, count-le, count-mono, count-ext, count-back, count-less, count-more, count-some, count-strike}
+use Rattle.lists.proofs.Count.{toℕ, count-le, count-mono, count-ext, count-back, count-more, count-some}
 use Rattle.members.specs.Members.{bit, has, setOf, card}
 
 -- ---- digits, lowest first
@@ -92,14 +90,6 @@ has-above zero m i h l = ap (λ (x : ℕ). has x i) (lt-one h) ∙ has-zero i
 has-above (suc n) m zero h l = absurd (not-suc-le-zero l)
 has-above (suc n) m (suc i) h l = has-above n (m / 2) i (half-lt n m h) (le-of-suc-le-suc l)
 
--- a member is one of the n
-pub has-lt : (n m i : ℕ) → m < 2 ^ n → has m i ≡ true → i < n
-has-lt n m i h y =
-    elim (test (ltb i n)) [
-      | inl l ↦ ltb-true i n l
-      | inr l ↦ absurd (clash y (has-above n m i h (ltb-false i n l)))
-    ]
-
 -- ---- how many members
 
 pub card-setOf : (n : ℕ) (p : ℕ → Bool) → card n (setOf n p) ≡ count n p
@@ -114,20 +104,10 @@ pub card-mono : (n a b : ℕ) → ((i : ℕ) → i < n → has a i ≡ true → 
 unfolding card
 card-mono n a b h = count-mono n (has a) (has b) h
 
--- a subset that lacks a member is smaller
-pub card-less : (n a b : ℕ) → ((i : ℕ) → i < n → has a i ≡ true → has b i ≡ true) → (k : ℕ) → k < n → has a k ≡ false → has b k ≡ true → card n a < card n b
-unfolding card
-card-less n a b h k l na yb = count-less n (has a) (has b) h k l na yb
-
 -- a subset that is not smaller is the set
 pub card-same : (n a b : ℕ) → a < 2 ^ n → b < 2 ^ n → ((i : ℕ) → i < n → has a i ≡ true → has b i ≡ true) → card n b ≤ card n a → a ≡ b
 unfolding card
 card-same n a b ha hb h l = subsets-equal n a b ha hb h (count-back n (has a) (has b) h l)
-
--- a set with a member struck has one less
-pub card-strike : (n m k : ℕ) → k < n → has m k ≡ true → card n m ≡ suc (card n (setOf n (λ i. has m i && not (eqb i k))))
-unfolding card
-card-strike n m k h y = count-strike n (has m) k h y ∙ ap suc (sym (card-setOf n (λ i. has m i && not (eqb i k))))
 
 -- a set of no members is 0, and any other has one
 pub card-none : (n m : ℕ) → m < 2 ^ n → card n m ≤ 0 → m ≡ 0
@@ -203,30 +183,6 @@ has-or zero a b =
 has-or (suc i) a b =
     ap (λ (x : ℕ). has x i) (step-half (bitOr a b) (bitOr (a / 2) (b / 2)) (max (a % 2) (b % 2)) (max-lt (a % 2) (b % 2) (mod2 a) (mod2 b)) (or-step a b))
     ∙ has-or i (a / 2) (b / 2)
-
-differs : (x y : ℕ) → x < 2 → y < 2 → eqb (differ x y) 1 ≡ cond (eqb y 1) (not (eqb x 1)) (eqb x 1)
-differs zero zero h k = refl
-differs zero (suc zero) h k = refl
-differs (suc zero) zero h k = refl
-differs (suc zero) (suc zero) h k = refl
-differs (suc (suc x)) y h k = absurd (not-suc-le-zero (le-of-suc-le-suc (le-of-suc-le-suc h)))
-differs zero (suc (suc y)) h k = absurd (not-suc-le-zero (le-of-suc-le-suc (le-of-suc-le-suc k)))
-differs (suc zero) (suc (suc y)) h k = absurd (not-suc-le-zero (le-of-suc-le-suc (le-of-suc-le-suc k)))
-
-differ-lt : (x y : ℕ) → x < 2 → y < 2 → differ x y < 2
-differ-lt zero y h k = k
-differ-lt (suc x) zero h k = h
-differ-lt (suc zero) (suc y) h k = lt-of-suc y k
-differ-lt (suc (suc x)) (suc y) h k = absurd (not-suc-le-zero (le-of-suc-le-suc (le-of-suc-le-suc h)))
-
-pub has-xor : (i a b : ℕ) → has (bitXor a b) i ≡ cond (has b i) (not (has a i)) (has a i)
-unfolding has bit
-has-xor zero a b =
-    ap (λ (x : ℕ). eqb x 1) (step-low (bitXor a b) (bitXor (a / 2) (b / 2)) (differ (a % 2) (b % 2)) (differ-lt (a % 2) (b % 2) (mod2 a) (mod2 b)) (xor-step a b))
-    ∙ differs (a % 2) (b % 2) (mod2 a) (mod2 b)
-has-xor (suc i) a b =
-    ap (λ (x : ℕ). has x i) (step-half (bitXor a b) (bitXor (a / 2) (b / 2)) (differ (a % 2) (b % 2)) (differ-lt (a % 2) (b % 2) (mod2 a) (mod2 b)) (xor-step a b))
-    ∙ has-xor i (a / 2) (b / 2)
 
 -- the members that two sets have in common, counted
 pub ones-and : (n a b : ℕ) → a < 2 ^ n → b < 2 ^ n → ones (bitAnd a b) ≡ count n (λ j. has a j && has b j)

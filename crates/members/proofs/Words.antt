@@ -2,22 +2,22 @@
 -- Assumes nothing.
 use mathlib.Core.Path.{_≡_, refl, sym, ap, _∙_, subst}
 use mathlib.Core.Logic.{_⊎_, inl, inr}
-use mathlib.Core.Bool.{Bool, true, false, _&&_, _||_, not, cond, and-true, true≢false, false≢true}
+use mathlib.Core.Bool.{Bool, true, false, _&&_, _||_, cond, and-true}
 use Prim.Native.Nat.{ℕ, zero, suc, _+_, _*_, _/_, _^_, _≤_, _<_, zero-le, suc-le-suc}
 use native.Mathlib.Nat.{le-refl, le-suc, le-of-eq, le-of-suc-le-suc, eq-or-lt-of-le, lt-of-lt-of-le, lt-irrefl}
 use native.Mathlib.Numerals.{add-one}
 use native.Mathlib.Omega.{arith}
 use lib.Dec.{eqb, ltb, leb, leb·suc-suc}
-use lib.Bits.{bitAnd, bitOr, bitXor, and-mask, or-lt, xor-lt}
+use lib.Bits.{bitAnd, bitOr, and-mask, or-lt}
 use lib.Count.{ones}
 use lib.Pow.{pow-mono, pow-lt}
 use borrow.Author.Tests.{eqb-true, eqb-false, ne-eqb, lt-ltb, le-ltb, ltb-true, ltb-false}
 use Rattle.lists.specs.Tabulate.{count}
-use Rattle.lists.proofs.Bools.{test, or-no, or-yes, and-no, and-not}
+use Rattle.lists.proofs.Bools.{test, or-no, or-yes, and-no}
 use Rattle.lists.proofs.Checks.{within-high}
 use Rattle.lists.proofs.Count.{count-more}
-use Rattle.members.specs.Members.{isThreshold, size, has, setOf, isSet, card, adding, striking, firstOf, common}
-use Rattle.members.proofs.Masks.{has-setOf, setOf-lt, setOf-has, setOf-ext, same-members, has-above, has-or, has-xor, has-power, has-shift, ones-and, suc-everyone, card-more}
+use Rattle.members.specs.Members.{isThreshold, size, has, setOf, isSet, card, adding, firstOf, common}
+use Rattle.members.proofs.Masks.{has-setOf, setOf-lt, setOf-has, setOf-ext, same-members, has-above, has-or, has-power, has-shift, ones-and, suc-everyone, card-more}
 
 -- ---- what the code computes
 
@@ -38,34 +38,6 @@ pub adding-beyond : (m i : ℕ) → m < 2 ^ 32 → 32 ≤ i → m ≡ adding m i
 unfolding adding
 adding-beyond m i h k =
     sym (setOf-ext 32 (λ j. has m j || eqb j i) (has m) (λ j l. or-no (has m j) (eqb j i) (apart i j l k)) ∙ setOf-has 32 m h)
-
-flip : (a b c : Bool) → (c ≡ true → a ≡ true) → b ≡ c → cond b (not a) a ≡ a && not c
-flip true true true h e = refl
-flip true false false h e = refl
-flip true true false h e = absurd (true≢false e)
-flip true false true h e = absurd (false≢true e)
-flip false b true h e = absurd (false≢true (h refl))
-flip false true false h e = absurd (true≢false e)
-flip false false false h e = refl
-
-pub striking-xor : (m i : ℕ) → m < 2 ^ 32 → i < 32 → has m i ≡ true → bitXor m (2 ^ i) ≡ striking m i
-unfolding striking
-striking-xor m i h k y =
-    same-members 32 (bitXor m (2 ^ i)) (setOf 32 (λ j. has m j && not (eqb j i))) (xor-lt 32 m (2 ^ i) h (pow-lt k)) (setOf-lt 32 (λ j. has m j && not (eqb j i)))
-    (λ j l. has-xor j m (2 ^ i) ∙ flip (has m j) (has (2 ^ i) j) (eqb j i) (λ e. ap (has m) (eqb-true j i e) ∙ y) (has-power i j)
-    ∙ sym (has-setOf 32 (λ x. has m x && not (eqb x i)) j l))
-
-absent : (m i j : ℕ) → has m i ≡ false → has m j && not (eqb j i) ≡ has m j
-absent m i j n =
-    elim (test (eqb j i)) [
-      | inl e ↦ let z : has m j ≡ false = ap (has m) (eqb-true j i e) ∙ n in rw z
-      | inr e ↦ and-not (has m j) (eqb j i) e
-    ]
-
-pub striking-absent : (m i : ℕ) → m < 2 ^ 32 → has m i ≡ false → m ≡ striking m i
-unfolding striking
-striking-absent m i h n =
-    sym (setOf-ext 32 (λ j. has m j && not (eqb j i)) (has m) (λ j l. absent m i j n) ∙ setOf-has 32 m h)
 
 pub common-ones : (a b : ℕ) → a < 2 ^ 32 → b < 2 ^ 32 → ones (bitAnd a b) ≡ common a b
 unfolding common

@@ -1,9 +1,9 @@
 -- `members::own_points`: the loop writes i + 1 at each place i, and stops at the last.
 -- Assumes nothing.
-use Prim.Native.Nat.{ℕ, suc, _-_}
+use Prim.Native.Nat.{suc, _-_}
 use native.Mathlib.Numerals.{add-one}
 use native.Mathlib.Omega.{arith}
-use lib.ListN.{length, length-set}
+use lib.ListN.{length}
 use borrow.Author.Needs.{needs}
 use Rattle.lists.proofs.Tables.{Filled, filled-first, filled-next, filled-last}
 use Rattle.members.proofs.own_points.Statement.{statement}

@@ -5,35 +5,14 @@ use borrow.Author.Needs.{needs}
 use Rattle.rutzebam.proofs.rutzebam_deal.Statement.{statement}
 use Rattle.rutzebam.proofs.rutzebam_deal.Tie as tie
 
-deal-requires : tie.Need-deal-requires
-deal-requires c κs = search needs
-
-enum-told : tie.Need-enum-told
-enum-told c = search needs
-
-enum-known-number : tie.Need-enum-known-number
-enum-known-number c = search needs
-
-same-length : tie.Need-same-length
-same-length c = search needs
-
-returns : tie.Need-returns
-returns c = search deals
-
-same-length-2 : tie.Need-same-length-2
-same-length-2 c = search needs
-
-returns-2 : tie.Need-returns-2
-returns-2 c = search deal-refuses
-
 pub rutzebam-deal-spec : {M : Type 1} → statement M
 rutzebam-deal-spec =
     tie.close
     (tie.spec
-    deal-requires
-    enum-told
-    enum-known-number
-    same-length
-    returns
-    same-length-2
-    returns-2)
+    (λ c κs. search needs)
+    (λ c. search needs)
+    (λ c. search needs)
+    (λ c. search needs)
+    (λ c. search deals)
+    (λ c. search needs)
+    (λ c. search deal-refuses))
