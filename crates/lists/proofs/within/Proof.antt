@@ -1,4 +1,4 @@
--- `lists::within` meets its contract.
+-- `lists::within`: the two tests are those of the definition.
 -- Assumes nothing.
 use borrow.Author.Tests.{le-leb, lt-leb}
 use Rattle.lists.proofs.within.Statement.{statement}

@@ -1,4 +1,4 @@
--- `mac::tag` meets its contract.
+-- `mac::tag`: the tag is β plus α times the words' polynomial at α.
 -- Assumes nothing.
 use borrow.Author.Needs.{needs}
 use Rattle.mac.proofs.Tags.{tag-from}

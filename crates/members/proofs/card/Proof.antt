@@ -1,4 +1,4 @@
--- `members::card` meets its contract.
+-- `members::card`: the count of ones is the count of members.
 -- Assumes nothing.
 use Rattle.members.proofs.Masks.{ones-card}
 use Rattle.members.proofs.card.Statement.{statement}

@@ -1,4 +1,4 @@
--- `members::common` meets its contract.
+-- `members::common`: the ones of both masks are the members of both sets.
 -- Assumes nothing.
 use Rattle.members.proofs.Words.{common-ones}
 use Rattle.members.proofs.common.Statement.{statement}

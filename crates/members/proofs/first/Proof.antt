@@ -1,4 +1,4 @@
--- `members::first` meets its contract.
+-- `members::first`: all bits below n together are 2 to the power n, less 1.
 -- Assumes nothing.
 use native.Mathlib.Omega.{arith}
 use borrow.Author.Needs.{needs}

@@ -1,4 +1,4 @@
--- `members::only` meets its contract.
+-- `members::only`: a shift of 1 by i is 2 to the power i.
 -- Assumes nothing.
 use borrow.Author.Needs.{needs}
 use lib.Pow.{shl-exact}

@@ -1,4 +1,4 @@
--- `members::threshold` meets its contract.
+-- `members::threshold`: the two tests are those of the definition.
 -- Assumes nothing.
 use borrow.Author.Tests.{le-leb, lt-leb}
 use Rattle.members.proofs.threshold.Statement.{statement}

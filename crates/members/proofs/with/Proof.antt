@@ -1,4 +1,4 @@
--- `members::with` meets its contract.
+-- `members::with`: an OR with bit i adds member i, and one beyond the 32 changes nothing.
 -- Assumes nothing.
 use mathlib.Core.Path.{ap, _∙_}
 use Prim.Native.Nat.{ℕ}

@@ -1,4 +1,4 @@
--- `rutzebam::rutzebam_deal` meets its contract: each case of the inner answer is told by its number and its places.
+-- `rutzebam::rutzebam_deal`: each case of the inner answer is told by its number and its places, and the number fits.
 -- Assumes nothing.
 use Rattle.rutzebam.proofs.Calls.{deals, deal-refuses}
 use borrow.Author.Needs.{needs}

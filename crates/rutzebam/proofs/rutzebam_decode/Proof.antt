@@ -1,4 +1,4 @@
--- `rutzebam::rutzebam_decode` meets its contract: each case of the inner answer is told by its number and its places.
+-- `rutzebam::rutzebam_decode`: each case of the inner answer is told by its number and its places, and the number fits.
 -- Assumes nothing.
 use Rattle.rutzebam.proofs.Calls.{decodes, decode-refuses}
 use borrow.Author.Needs.{needs}

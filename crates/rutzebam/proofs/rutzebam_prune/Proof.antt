@@ -1,4 +1,4 @@
--- `rutzebam::rutzebam_prune` meets its contract: each case of the inner answer is told by its number and its places.
+-- `rutzebam::rutzebam_prune`: each case of the inner answer is told by its number and its places, and the number fits.
 -- Assumes nothing.
 use Rattle.rutzebam.proofs.Calls.{prunes, prune-refuses}
 use borrow.Author.Needs.{needs}

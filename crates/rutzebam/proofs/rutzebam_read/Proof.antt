@@ -1,4 +1,4 @@
--- `rutzebam::rutzebam_read` meets its contract: each case of the inner answer is told by its number and its places.
+-- `rutzebam::rutzebam_read`: each case of the inner answer is told by its number and its places, and the number fits.
 -- Assumes nothing.
 use Rattle.rutzebam.proofs.Calls.{reads, read-refuses}
 use borrow.Author.Needs.{needs}
