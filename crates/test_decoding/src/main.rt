@@ -149,11 +149,12 @@ fn words(t: usize, set: u32, seed: u16) {
         return;
     }
     let half = (s - t - 1) / 2;
+    let too_many = half + 1;
     word(case_of(t, set, 0, seed, false));
     word(case_of(t, set, half, next(seed), false));
     word(case_of(t, set, half, next(seed), true));
-    word(case_of(t, set, half + 1, seed, false));
-    word(case_of(t, set, half + 1, seed, true));
+    word(case_of(t, set, too_many, seed, false));
+    word(case_of(t, set, too_many, seed, true));
 }
 
 // All n members, and some of them.
