@@ -76,7 +76,9 @@ module _ (xs : List ℕ) (t : ℕ) (secret random words : List ℕ) (set : ℕ) 
       record {
         degree = λ k h. polynomial-degree t secret random k;
         enough =
-            le-trans (need-most t (card (size t) set) (count (size t) p) (count (size t) q) many (count-split (size t) (has set) (kept t d dealt words)) (le-trans (le-of-eq (sym (card-setOf (size t) q))) few))
+            le-trans
+            (need-most t (card (size t) set) (count (size t) p) (count (size t) q) many (count-split (size t) (has set) (kept t d dealt words))
+            (le-trans (le-of-eq (sym (card-setOf (size t) q))) few))
             (le-trans (count-mono (size t) p (agrees xs d (word t d words) set (polynomial t secret random)) (λ i h e. kept-agrees i h e))
             (le-of-eq (sym (card-agreeing xs t d (word t d words) set (polynomial t secret random)))));
       }

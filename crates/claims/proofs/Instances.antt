@@ -41,7 +41,10 @@ as-tested t d present honest dealt words h i l e =
     }
 
 pub instances : Instances
-unfolding tab all count keep each first concat choose difference product power inverse eval value linear slopes interpolate size ownPoints bit has setOf card membersOf surplus need agreeing through find tag width word shareWords tagWord keyα keyβ votes round rounds survivors fieldShare usable tagHolds accepts voteRows unopened isQuorum required atZero openedFrom finish reconstruct randomLength polynomial dealtα dealtβ dealtWords dealtTag dealtShare dealtShares deal altered
+unfolding tab all count keep each first concat choose difference product power inverse eval value linear slopes interpolate size ownPoints bit has
+    setOf card membersOf surplus need agreeing through find tag width word shareWords tagWord keyα keyβ votes round rounds survivors fieldShare usable
+    tagHolds accepts voteRows unopened isQuorum required atZero openedFrom finish reconstruct randomLength polynomial dealtα dealtβ dealtWords
+    dealtTag dealtShare dealtShares deal altered
 instances =
     record {
       altered-survivor = record {
