@@ -6,8 +6,7 @@ use mathlib.Core.List.{List, [], _∷_}
 use Prim.Native.Nat.{ℕ, suc, _+_, _*_, _≤_, _<_}
 use native.Mathlib.Omega.{arith}
 use lib.Dec.{eqb}
-use lib.ListN.{length, getD, drop, length-take, length-drop}
-use lib.Seq.{length-take-le}
+use lib.ListN.{length, getD, drop, length-take}
 use borrow.Author.Tests.{ltb-true, lt-ltb, eqb-true}
 use Rattle.lists.specs.Tabulate.{tab, each, concat}
 use Rattle.lists.specs.Checks.{_unless_, Check}
@@ -25,7 +24,6 @@ use Rattle.shares.specs.Layout.{isLength, width, word, shareWord, shareWords, t
 use Rattle.shares.proofs.Assembled.{assembled-length, assembled-every, share-word-is, share-words-are, tag-is, α-is, β-is}
 use Rattle.shares.proofs.Reading.{word-every}
 use Rattle.dealing.specs.Dealing.{randomLength, polynomial, dealtα, dealtβ, dealtWords, dealtTag, dealtShare, dealtShares, Dealt, deal}
-use Rattle.dealing.proofs.Places.{coefficients-inside}
 use Rattle.dealing.proofs.Refusals.{refusal, dealt}
 
 -- The polynomials: t + 1 coefficients, and the secret word at 0.
@@ -33,17 +31,6 @@ use Rattle.dealing.proofs.Refusals.{refusal, dealt}
 pub polynomial-degree : (t : ℕ) (secret random : List ℕ) (k : ℕ) → length (polynomial t secret random k) ≤ suc t
 unfolding polynomial
 polynomial-degree t secret random k = omega (arith, length-take t (drop (t * k) random))
-
-pub polynomial-length : (t : ℕ) (secret random : List ℕ) (k : ℕ) → length random ≡ randomLength t (length secret) → k < length secret
-    → length (polynomial t secret random k) ≡ suc t
-unfolding polynomial
-polynomial-length t secret random k e h =
-    let m : t * k + t ≤ length random = coefficients-inside t (length secret) k (length random) e h in
-    ap suc (length-take-le t (drop (t * k) random) (simp length-drop (omega arith)))
-
-pub polynomial-constant : (t : ℕ) (secret random : List ℕ) (k : ℕ) → getD (polynomial t secret random k) 0 0 ≡ getD secret k 0
-unfolding polynomial
-polynomial-constant t secret random k = refl
 
 pub polynomial-zero : (t : ℕ) (secret random : List ℕ) (k : ℕ) → getD secret k 0 < prime → value (polynomial t secret random k) 0 ≡ getD secret k 0
 unfolding polynomial value eval

@@ -1,14 +1,13 @@
 -- The inverse of a difference: the rule of the table of small inverses, and differences of either sign.
 -- Assumes nothing.
-use mathlib.Core.Path.{_≡_, refl, sym, ap, _∙_}
-use Prim.Native.Nat.{ℕ, zero, suc, _+_, _-_, _*_, _≤_, _<_}
+use mathlib.Core.Path.{_≡_, ap, _∙_}
+use Prim.Native.Nat.{ℕ, suc, _+_, _-_, _*_, _≤_, _<_}
 use native.Mathlib.Nat.{zero-add}
 use native.Mathlib.Omega.{arith}
-use lib.Dec.{lit<}
 use lib.ListN.{getD}
 use Rattle.lists.proofs.Tabulate.{getD-tab}
 use Rattle.field.specs.Field.{difference, inverse, smallInverses}
-use Rattle.field.proofs.Congruence.{_≈_, same-refl, same-sym, same-trans, same-eq, eq-same, times, _⊕_}
+use Rattle.field.proofs.Congruence.{_≈_, same-sym, same-trans, same-eq, eq-same}
 use Rattle.field.proofs.Fermat.{inverse-word, inverse-same, inverse-minus}
 use Rattle.field.proofs.Operations.{difference-same, difference-word}
 

@@ -60,9 +60,6 @@ module _ {A : Type 0} where
   unfolding tab
   filled-first n f l at = record { inside = zero-le; so-far = refl }
 
-  pub filled-length : (n : ℕ) (f : ℕ → A) (l : List A) (at : ℕ) (now : List A) (j : ℕ) → Filled n f l at now j → length now ≡ length l
-  filled-length n f l at now j t = sets-length l (tab j f) now at (t .so-far)
-
   pub filled-next : (n : ℕ) (f : ℕ → A) (l : List A) (at : ℕ) (now : List A) (j place : ℕ) (a : A) → j < n → Filled n f l at now j
       → place ≡ at + j → a ≡ f j → Filled n f l at (set now place a) (j + 1)
   filled-next n f l at now j place a h t ep ea =
@@ -88,9 +85,6 @@ module _ {A : Type 0} where
   pub joined-first : (n w : ℕ) (f : ℕ → List A) (l : List A) (at : ℕ) → Joined n w f l at l 0
   unfolding tab concat
   joined-first n w f l at = record { inside = zero-le; so-far = refl }
-
-  pub joined-length : (n w : ℕ) (f : ℕ → List A) (l : List A) (at : ℕ) (now : List A) (j : ℕ) → Joined n w f l at now j → length now ≡ length l
-  joined-length n w f l at now j t = sets-length l (concat (tab j f)) now at (t .so-far)
 
   pub joined-next : (n w : ℕ) (f : ℕ → List A) (l : List A) (at : ℕ) (now next : List A) (j place : ℕ) → ((i : ℕ) → i < n → length (f i) ≡ w) → j < n
       → Joined n w f l at now j → place ≡ at + j * w → next ≡ sets now place (f j) → Joined n w f l at next (j + 1)

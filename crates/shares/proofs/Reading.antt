@@ -3,7 +3,6 @@
 use mathlib.Core.Path.{_≡_, sym, ap, _∙_}
 use mathlib.Core.List.{List}
 use Prim.Native.Nat.{ℕ, _+_, _-_, _*_, _≤_, _<_}
-use native.Mathlib.Nat.{add-assoc}
 use native.Mathlib.Omega.{arith}
 use lib.ListN.{length, getD, take, drop, length-drop}
 use lib.Seq.{ext-getD, getD-take, getD-drop, length-take-le}
@@ -12,7 +11,7 @@ use Rattle.lists.proofs.Blocks.{every-getD}
 use Rattle.lists.proofs.Every.{Every}
 use Rattle.lists.proofs.Tabulate.{length-tab, getD-tab, tab-ext}
 use Rattle.shares.specs.Layout.{wordPlace, tagPlace, keyPlace, word, shareWord, shareWords, tagWord, keyα, keyβ}
-use Rattle.shares.specs.Internal.Shape.{Station, Room, At}
+use Rattle.shares.specs.Internal.Shape.{Room, At}
 use Rattle.shares.specs.declared.Shape.{Shape}
 
 -- a part from p to its end, as the code lends it

@@ -11,7 +11,7 @@ use Rattle.shares.specs.Layout.{wordPlace, tagPlace, keyPlace, shareWords}
 use Rattle.shares.specs.Internal.Shape.{Room, stored}
 use Rattle.shares.specs.declared.Shape.{Shape}
 use Rattle.shares.proofs.Assembled.{assembled-stored}
-use Rattle.shares.proofs.Storing.{room-kept, words-stored}
+use Rattle.shares.proofs.Storing.{words-stored}
 use Rattle.dealing.specs.Dealing.{dealtWords, dealtTag, dealtShare}
 use Rattle.dealing.specs.Internal.Steps.{Supplied, wordsAt, tagOf, tagsOf, keysOf}
 use Rattle.dealing.proofs.Laws.{length-words, length-tags}

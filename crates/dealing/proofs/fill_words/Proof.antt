@@ -12,7 +12,7 @@ use Rattle.shares.specs.Internal.Shape.{At, stored}
 use Rattle.shares.specs.declared.Shape.{Shape}
 use Rattle.shares.proofs.Storing.{stored-at}
 use Rattle.dealing.specs.Dealing.{randomLength, polynomial}
-use Rattle.dealing.specs.Internal.Steps.{Supplied, wordsAt}
+use Rattle.dealing.specs.Internal.Steps.{wordsAt}
 use Rattle.dealing.proofs.Places.{coefficients-inside}
 use Rattle.dealing.proofs.fill_words.Statement.{statement}
 use Rattle.dealing.proofs.fill_words.Tie as tie
