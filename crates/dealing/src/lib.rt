@@ -115,7 +115,8 @@ fn fill_share(
     requires { ⌜ (length (now points) ≡ s .n) × (i < s .n) ⌝ }
     ensures { λ r. ⌜ now (shares .exit) ≡ stored s i 0 (dealtShare (now (points .entry)) (s .t) (now (secret .entry)) (now (random .entry)) i) (now (shares .entry)) ⌝ }
 {
-    fill_words(s, secret, random, points[i], shares, i);
+    let x = points[i];
+    fill_words(s, secret, random, x, shares, i);
     fill_tags(s, random, shares, i);
     fill_keys(s, random, shares, i);
 }
