@@ -5,7 +5,7 @@ use mathlib.Core.List.{List, [], _∷_}
 use Prim.Native.Nat.{ℕ, suc, _+_, _-_, _*_, _≤_, _<_}
 use native.Mathlib.Numerals.{add-one}
 use native.Mathlib.Omega.{arith}
-use lib.ListN.{length, getD, set, length-set}
+use lib.ListN.{getD, set, length-set}
 use lib.Seq.{sets}
 use borrow.Author.Needs.{needs}
 use Rattle.lists.specs.Tabulate.{tab, concat}
@@ -22,12 +22,8 @@ use Rattle.dealing.proofs.fill_keys.Tie as tie
 abbrev key : Shape → List ℕ → ℕ → ℕ → List ℕ
 key s random i j = dealtα (s .t) (s .d) random i j ∷ dealtβ (s .t) (s .d) random i j ∷ []
 
-record Turn (s : Shape) (random shares₀ : List ℕ) (i at : ℕ) (shares : List ℕ) (j : ℕ) : Type 0 where
-  kept : length shares ≡ length shares₀
-  joined : Joined (s .n) 2 (key s random i) shares₀ at shares j
-
-first : (s : Shape) (random shares : List ℕ) (i at : ℕ) → Turn s random shares i at shares 0
-first s random shares i at = record { kept = refl; joined = joined-first _ _ _ _ _ }
+abbrev Turn : Shape → List ℕ → List ℕ → ℕ → ℕ → List ℕ → ℕ → Type 0
+Turn s random shares₀ i at shares j = Joined (s .n) 2 (key s random i) shares₀ at shares j
 
 module _ (s : Shape) (random shares₀ : List ℕ) (i at : ℕ) (shares : List ℕ) (j : ℕ) (turn : Turn s random shares₀ i at shares j) where
   next : (from : ℕ) → KeyAt s i j from → j < s .n
@@ -36,19 +32,15 @@ module _ (s : Shape) (random shares₀ : List ℕ) (i at : ℕ) (shares : List �
       let place : ℕ = at + 2 * j in
       let α : ℕ = getD random from 0 in
       let β : ℕ = getD random (from + 1) 0 in
-      record {
-        kept = length-set (set shares place α) (place + 1) β ∙ length-set shares place α ∙ turn .kept;
-        joined =
-            joined-next (s .n) 2 (key s random i) shares₀ at shares (set (set shares place α) (place + 1) β) j place (λ k p. refl) h (turn .joined) (omega arith)
-            (ap (λ (p : ℕ). set (set shares place α) p β) (add-one place)
-            ∙ ap₂ (λ (a b : ℕ). set (set shares place a) (suc place) b) (α-there s i j from random from-there) (β-there s i j from random from-there));
-      }
+      joined-next (s .n) 2 (key s random i) shares₀ at shares (set (set shares place α) (place + 1) β) j place (λ k p. refl) h turn (omega arith)
+      (ap (λ (p : ℕ). set (set shares place α) p β) (add-one place)
+      ∙ ap₂ (λ (a b : ℕ). set (set shares place a) (suc place) b) (α-there s i j from random from-there) (β-there s i j from random from-there))
 
   last : (place count : ℕ) → Station s → At s i place count at → s .n ≤ j → shares ≡ stored s i place (keysOf (s .t) (s .d) random i) shares₀
   unfolding keysOf
   last place count st there h =
       stored-at s i place count at (keysOf (s .t) (s .d) random i) shares₀ shares there
-      (joined-last (s .n) 2 (key s random i) shares₀ at shares j h (turn .joined)
+      (joined-last (s .n) 2 (key s random i) shares₀ at shares j h turn
       ∙ ap (λ (n : ℕ). sets shares₀ at (concat (tab n (key s random i)))) (st .members))
 
 abbrev Inv-loop : tie.InvT-loop
@@ -64,7 +56,7 @@ fill-keys-spec =
     Inv-loop
     μ-loop
     (λ c κs. search needs)
-    (λ c. search first)
+    (λ c. joined-first _ _ _ _ _)
     -- key_place(s, i, j) and at + 2 * j
     (λ c κs. search needs)
     (λ c. omega arith)

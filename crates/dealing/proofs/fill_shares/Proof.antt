@@ -1,6 +1,6 @@
 -- `dealing::fill_shares`: before turn i the first i shares stand in their places, and n of them are the whole buffer.
 -- Assumes nothing.
-use mathlib.Core.Path.{_≡_, refl, sym, ap, _∙_}
+use mathlib.Core.Path.{_≡_, sym, ap, _∙_}
 use mathlib.Core.List.{List}
 use Prim.Native.Nat.{ℕ, _+_, _-_, _*_, _≤_, _<_}
 use native.Mathlib.Omega.{arith}
@@ -8,10 +8,11 @@ use lib.ListN.{length}
 use borrow.Author.Needs.{needs}
 use Rattle.lists.specs.Tabulate.{tab, concat}
 use Rattle.lists.proofs.Blocks.{length-concat}
-use Rattle.lists.proofs.Stores.{sets-length, sets-whole, Joined, joined-first, joined-next, joined-last}
+use Rattle.lists.proofs.Stores.{sets-whole, Joined, joined-first, joined-next, joined-last}
 use Rattle.shares.specs.Layout.{width}
 use Rattle.shares.specs.Internal.Shape.{Room, stored}
 use Rattle.shares.specs.declared.Shape.{Shape}
+use Rattle.shares.proofs.Storing.{room-kept}
 use Rattle.dealing.specs.Dealing.{dealtShare, dealtShares}
 use Rattle.dealing.specs.Internal.Steps.{Supplied}
 use Rattle.dealing.proofs.Laws.{length-share}
@@ -20,11 +21,10 @@ use Rattle.dealing.proofs.fill_shares.Tie as tie
 
 record Turn (s : Shape) (xs secret random shares₀ shares : List ℕ) (i : ℕ) : Type 0 where
   room : Room s shares
-  kept : length shares ≡ length shares₀
   joined : Joined (s .n) (s .width) (dealtShare xs (s .t) secret random) shares₀ 0 shares i
 
 first : (s : Shape) (xs secret random shares : List ℕ) → Room s shares → Turn s xs secret random shares shares 0
-first s xs secret random shares room = record { room = room; kept = refl; joined = joined-first _ _ _ _ _ }
+first s xs secret random shares room = record { room = room; joined = joined-first _ _ _ _ _ }
 
 module _ (s : Shape) (xs secret random shares₀ shares : List ℕ) (i : ℕ) (given : Supplied s secret random) (turn : Turn s xs secret random shares₀ shares i) where
   long : (j : ℕ) → length (dealtShare xs (s .t) secret random j) ≡ s .width
@@ -32,10 +32,8 @@ module _ (s : Shape) (xs secret random shares₀ shares : List ℕ) (i : ℕ) (g
 
   next : (after : List ℕ) → i < s .n → after ≡ stored s i 0 (dealtShare xs (s .t) secret random i) shares → Turn s xs secret random shares₀ after (i + 1)
   next after h e =
-      let same : length after ≡ length shares = sets-length shares (dealtShare xs (s .t) secret random i) after (i * s .width + 0) e in
       record {
-        room = record { station = turn .room .station; long = same ∙ turn .room .long };
-        kept = same ∙ turn .kept;
+        room = room-kept s shares (dealtShare xs (s .t) secret random i) after (i * s .width + 0) (turn .room) e;
         joined =
             joined-next (s .n) (s .width) (dealtShare xs (s .t) secret random) shares₀ 0 shares after i (i * s .width + 0) (λ j p. long j) h (turn .joined)
             (omega arith) e;

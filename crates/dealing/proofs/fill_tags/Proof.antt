@@ -4,7 +4,7 @@ use mathlib.Core.Path.{_≡_, refl, ap, _∙_}
 use mathlib.Core.List.{List}
 use Prim.Native.Nat.{ℕ, _+_, _-_, _≤_, _<_}
 use native.Mathlib.Omega.{arith}
-use lib.ListN.{length, take, drop, set, length-set}
+use lib.ListN.{take, drop, set}
 use lib.Seq.{sets}
 use borrow.Author.Needs.{needs}
 use Rattle.lists.specs.Tabulate.{tab}
@@ -18,12 +18,8 @@ use Rattle.dealing.specs.Internal.Steps.{tagOf, tagsOf}
 use Rattle.dealing.proofs.fill_tags.Statement.{statement}
 use Rattle.dealing.proofs.fill_tags.Tie as tie
 
-record Turn (s : Shape) (random shares₀ : List ℕ) (i at : ℕ) (shares : List ℕ) (j : ℕ) : Type 0 where
-  kept : length shares ≡ length shares₀
-  filled : Filled (s .n) (tagOf (s .t) (s .d) random i (shareWords (s .t) (s .d) shares₀ i)) shares₀ at shares j
-
-first : (s : Shape) (random shares : List ℕ) (i at : ℕ) → Turn s random shares i at shares 0
-first s random shares i at = record { kept = refl; filled = filled-first _ _ _ _ }
+abbrev Turn : Shape → List ℕ → List ℕ → ℕ → ℕ → List ℕ → ℕ → Type 0
+Turn s random shares₀ i at shares j = Filled (s .n) (tagOf (s .t) (s .d) random i (shareWords (s .t) (s .d) shares₀ i)) shares₀ at shares j
 
 module _ (s : Shape) (random shares₀ : List ℕ) (i at : ℕ) (shares : List ℕ) (j : ℕ) (room : Room s shares₀) (h : i < s .n)
     (there : At s i (tagPlace (s .d) 0) (s .n) at) (turn : Turn s random shares₀ i at shares j) where
@@ -32,24 +28,20 @@ module _ (s : Shape) (random shares₀ : List ℕ) (i at : ℕ) (shares : List �
   standing words words-there =
       let done : List ℕ = tab j (tagOf (s .t) (s .d) random i (shareWords (s .t) (s .d) shares₀ i)) in
       lent words (s .d) shares
-      ∙ words-at s shares (room-kept s shares₀ done shares at room (turn .filled .so-far)) i words words-there
-      ∙ words-kept s shares₀ shares i room h done (stored-at s i (tagPlace (s .d) 0) (s .n) at done shares₀ shares there (turn .filled .so-far))
+      ∙ words-at s shares (room-kept s shares₀ done shares at room (turn .so-far)) i words words-there
+      ∙ words-kept s shares₀ shares i room h done (stored-at s i (tagPlace (s .d) 0) (s .n) at done shares₀ shares there (turn .so-far))
 
   next : (words r : ℕ) → At s i (wordPlace 0) (s .d) words → j < s .n
       → r ≡ tagOf (s .t) (s .d) random i (take (words + s .d - words) (drop words shares)) j → Turn s random shares₀ i at (set shares (at + j) r) (j + 1)
   next words r words-there q e =
-      record {
-        kept = length-set shares (at + j) r ∙ turn .kept;
-        filled =
-            filled-next (s .n) _ shares₀ at shares j (at + j) r q (turn .filled) refl
-            (e ∙ ap (λ (ws : List ℕ). tagOf (s .t) (s .d) random i ws j) (standing words words-there));
-      }
+      filled-next (s .n) _ shares₀ at shares j (at + j) r q turn refl
+      (e ∙ ap (λ (ws : List ℕ). tagOf (s .t) (s .d) random i ws j) (standing words words-there))
 
   last : s .n ≤ j → shares ≡ stored s i (tagPlace (s .d) 0) (tagsOf (s .t) (s .d) random i (shareWords (s .t) (s .d) shares₀ i)) shares₀
   unfolding tagsOf
   last q =
       stored-at s i (tagPlace (s .d) 0) (s .n) at (tagsOf (s .t) (s .d) random i (shareWords (s .t) (s .d) shares₀ i)) shares₀ shares there
-      (filled-last (s .n) _ shares₀ at shares j q (turn .filled)
+      (filled-last (s .n) _ shares₀ at shares j q turn
       ∙ ap (λ (n : ℕ). sets shares₀ at (tab n (tagOf (s .t) (s .d) random i (shareWords (s .t) (s .d) shares₀ i)))) (room .station .members))
 
 abbrev Inv-loop : tie.InvT-loop
@@ -68,7 +60,7 @@ fill-tags-spec =
     (λ c κs. search needs)
     (λ c. omega arith)
     (λ c κs. search needs)
-    (λ c. search first)
+    (λ c. filled-first _ _ _ _)
     -- tag_of(s, random, &shares[words..end], i, j)
     (λ c. omega arith)
     (λ c. omega arith)

@@ -4,7 +4,7 @@ use mathlib.Core.Path.{_≡_, refl, ap₂, _∙_}
 use mathlib.Core.List.{List, _∷_}
 use Prim.Native.Nat.{ℕ, _+_, _-_, _*_, _≤_, _<_}
 use native.Mathlib.Omega.{arith}
-use lib.ListN.{length, getD, take, drop, set, length-set}
+use lib.ListN.{length, getD, take, drop, set}
 use borrow.Author.Needs.{needs}
 use Rattle.lists.proofs.Stores.{Filled, filled-first, filled-next, filled-last}
 use Rattle.polynomial.specs.Polynomial.{value}
@@ -18,12 +18,11 @@ use Rattle.dealing.proofs.fill_words.Statement.{statement}
 use Rattle.dealing.proofs.fill_words.Tie as tie
 
 record Turn (t : ℕ) (secret random : List ℕ) (x : ℕ) (shares₀ : List ℕ) (at : ℕ) (shares : List ℕ) (from k : ℕ) : Type 0 where
-  kept : length shares ≡ length shares₀
   place : from ≡ t * k
   filled : Filled (length secret) (λ k. value (polynomial t secret random k) x) shares₀ at shares k
 
 first : (t : ℕ) (secret random : List ℕ) (x : ℕ) (shares : List ℕ) (at : ℕ) → Turn t secret random x shares at shares 0 0
-first t secret random x shares at = record { kept = refl; place = omega arith; filled = filled-first _ _ _ _ }
+first t secret random x shares at = record { place = omega arith; filled = filled-first _ _ _ _ }
 
 module _ (t : ℕ) (secret random : List ℕ) (x : ℕ) (shares₀ : List ℕ) (at : ℕ) (shares : List ℕ) (from k : ℕ)
     (turn : Turn t secret random x shares₀ at shares from k) where
@@ -36,7 +35,6 @@ module _ (t : ℕ) (secret random : List ℕ) (x : ℕ) (shares₀ : List ℕ) (
   next r h e =
       let n : from + t - from ≡ t = omega arith in
       record {
-        kept = length-set shares (at + k) r ∙ turn .kept;
         place = omega (arith, turn .place);
         filled =
             filled-next _ _ shares₀ at shares k (at + k) r h (turn .filled) refl
