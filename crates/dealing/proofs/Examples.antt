@@ -4,11 +4,11 @@ use Rattle.lists.specs.Tabulate.{tab, each, concat}
 use Rattle.polynomial.specs.Polynomial.{eval, value}
 use Rattle.mac.specs.Tag.{tag}
 use Rattle.members.specs.Members.{size, ownPoints}
-use Rattle.shares.specs.Layout.{width}
+use Rattle.shares.specs.Layout.{width, assembled}
 use Rattle.shares.specs.Sample.{sample, keyless}
 use Rattle.dealing.specs.Dealing.{randomLength, polynomial, dealtα, dealtβ, dealtWords, dealtTag, dealtShare, dealtShares, deal}
 use Rattle.dealing.specs.Examples.{Examples}
 
 pub examples : Examples
-unfolding tab each concat eval value tag size ownPoints width sample keyless randomLength polynomial dealtα dealtβ dealtWords dealtTag dealtShare dealtShares deal
+unfolding tab each concat eval value tag size ownPoints width assembled sample keyless randomLength polynomial dealtα dealtβ dealtWords dealtTag dealtShare dealtShares deal
 examples = search

@@ -6,6 +6,7 @@ use mathlib.Core.List.{List, [], _∷_}
 use Prim.Native.Nat.{ℕ, _*_, _≤_, zero-le}
 use lib.Dec.{eqb}
 use lib.ListN.{length}
+use borrow.Author.Tests.{eq-eqb, ne-eqb}
 use Rattle.lists.specs.Tabulate.{each}
 use Rattle.lists.specs.Checks.{_unless_}
 use Rattle.lists.proofs.Checks.{number-fits}
@@ -29,29 +30,35 @@ module _ (t : ℕ) (secret random buffer : List ℕ) where
     refused-2 e₂ = rw (e₁, e₂)
 
     module _ (e₂ : isLength (length secret) ≡ true) where
-      pub refused-3 : eqb (length random) (randomLength t (length secret)) ≡ false → refusal buffer 3 ≡ deal t secret random buffer
+      pub refused-3 : (length random ≡ randomLength t (length secret) → ⊥) → refusal buffer 3 ≡ deal t secret random buffer
       unfolding deal
-      refused-3 e₃ = rw (e₁, e₂, e₃)
+      refused-3 n₃ = rw (e₁, e₂, ne-eqb (length random) (randomLength t (length secret)) n₃)
 
-      module _ (e₃ : eqb (length random) (randomLength t (length secret)) ≡ true) where
-        pub refused-4 : eqb (length buffer) (size t * width t (length secret)) ≡ false → refusal buffer 4 ≡ deal t secret random buffer
+      module _ (e₃ : length random ≡ randomLength t (length secret)) where
+        t₃ : eqb (length random) (randomLength t (length secret)) ≡ true
+        t₃ = eq-eqb (length random) (randomLength t (length secret)) e₃
+
+        pub refused-4 : (length buffer ≡ size t * width t (length secret) → ⊥) → refusal buffer 4 ≡ deal t secret random buffer
         unfolding deal
-        refused-4 e₄ = rw (e₁, e₂, e₃, e₄)
+        refused-4 n₄ = rw (e₁, e₂, t₃, ne-eqb (length buffer) (size t * width t (length secret)) n₄)
 
-        module _ (e₄ : eqb (length buffer) (size t * width t (length secret)) ≡ true) where
+        module _ (e₄ : length buffer ≡ size t * width t (length secret)) where
+          t₄ : eqb (length buffer) (size t * width t (length secret)) ≡ true
+          t₄ = eq-eqb (length buffer) (size t * width t (length secret)) e₄
+
           pub refused-5 : each isFieldWord secret ≡ false → refusal buffer 5 ≡ deal t secret random buffer
           unfolding deal
-          refused-5 e₅ = rw (e₁, e₂, e₃, e₄, e₅)
+          refused-5 e₅ = rw (e₁, e₂, t₃, t₄, e₅)
 
           module _ (e₅ : each isFieldWord secret ≡ true) where
             pub refused-6 : each isFieldWord random ≡ false → refusal buffer 6 ≡ deal t secret random buffer
             unfolding deal
-            refused-6 e₆ = rw (e₁, e₂, e₃, e₄, e₅, e₆)
+            refused-6 e₆ = rw (e₁, e₂, t₃, t₄, e₅, e₆)
 
             pub dealt : (e₆ : each isFieldWord random ≡ true) (shares : List ℕ) → shares ≡ dealtShares (ownPoints t) t secret random
                 → record { number = 0; shares = shares } ≡ deal t secret random buffer
             unfolding deal
-            dealt e₆ shares e = rw (e₁, e₂, e₃, e₄, e₅, e₆, e)
+            dealt e₆ shares e = rw (e₁, e₂, t₃, t₄, e₅, e₆, e)
 
 -- the answer's number fits a word
 pub dealt-fits : (t : ℕ) (secret random buffer : List ℕ) → deal t secret random buffer .number ≤ 65535

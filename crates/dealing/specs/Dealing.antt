@@ -1,8 +1,7 @@
 -- Dealing (document 01): a secret (document 01: record) of d words, split over the shares of n members.
 -- Assumes nothing.
 use Prim.Native.Nat.{ℕ, _+_, _*_}
-use mathlib.Core.Bool.{Bool}
-use mathlib.Core.List.{List, [], _∷_, _++_}
+use mathlib.Core.List.{List, [], _∷_}
 use lib.Dec.{eqb}
 use lib.ListN.{length, getD, take, drop}
 use Rattle.lists.specs.Tabulate.{tab, each, concat}
@@ -11,7 +10,7 @@ use Rattle.field.specs.Field.{isFieldWord}
 use Rattle.polynomial.specs.Polynomial.{value}
 use Rattle.mac.specs.Tag.{tag}
 use Rattle.members.specs.Members.{isThreshold, size, ownPoints}
-use Rattle.shares.specs.Layout.{isLength, width}
+use Rattle.shares.specs.Layout.{isLength, width, assembled}
 
 -- how many random words a dealing takes
 unfoldable pub randomLength : ℕ → ℕ → ℕ
@@ -40,9 +39,8 @@ dealtTag xs t secret random i j =
 -- member i's share: its share words, tag(i,1) .. tag(i,n), key(i,1) .. key(i,n)
 unfoldable pub dealtShare : List ℕ → ℕ → List ℕ → List ℕ → ℕ → List ℕ
 dealtShare xs t secret random i =
-    dealtWords xs t secret random i
-    ++ tab (size t) (dealtTag xs t secret random i)
-    ++ concat (tab (size t) (λ j. dealtα t (length secret) random i j ∷ dealtβ t (length secret) random i j ∷ []))
+    assembled (dealtWords xs t secret random i) (tab (size t) (dealtTag xs t secret random i))
+    (concat (tab (size t) (λ j. dealtα t (length secret) random i j ∷ dealtβ t (length secret) random i j ∷ [])))
 
 -- all shares, in member order
 unfoldable pub dealtShares : List ℕ → ℕ → List ℕ → List ℕ → List ℕ

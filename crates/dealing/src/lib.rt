@@ -1,15 +1,15 @@
 // Dealing: secret and random words to the members' shares.
+use shares::Shape;
 ghost use mathlib.Core.Path.{_≡_};
-ghost use Prim.Native.Nat.{_+_, _*_, _≤_, _<_};
+ghost use Prim.Native.Nat.{_<_};
 ghost use mathlib.Core.List.{_∷_};
-ghost use lib.ListN.{length, take, drop};
-ghost use lib.Seq.{sets};
+ghost use lib.ListN.{length};
 ghost use Rattle.polynomial.specs.Polynomial.{value};
-ghost use Rattle.mac.specs.Tag.{tag};
-ghost use Rattle.members.specs.Members.{size, ownPoints};
-ghost use Rattle.shares.specs.Layout.{width};
-ghost use Rattle.dealing.specs.Dealing.{randomLength, dealtα, dealtβ, dealtShare, dealtShares, deal as dealOf};
-ghost use Rattle.dealing.specs.Internal.Steps.{wordsAt, tagsOf, keysOf};
+ghost use Rattle.members.specs.Members.{ownPoints};
+ghost use Rattle.shares.specs.Layout.{wordPlace, tagPlace, keyPlace, shareWords};
+ghost use Rattle.shares.specs.Internal.Shape.{Station, Room, stored};
+ghost use Rattle.dealing.specs.Dealing.{randomLength, dealtShare, dealtShares, deal as dealOf};
+ghost use Rattle.dealing.specs.Internal.Steps.{Supplied, KeyAt, wordsAt, tagOf, tagsOf, keysOf};
 ghost use Rattle.dealing.specs.Answer.{answerOf};
 
 // Dealt, or refused with document 01's number.
@@ -25,11 +25,15 @@ fn value_at(constant: u16, others: &[u16], x: u16) -> u16
     field::add_product(constant, x, polynomial::evaluate(others, x))
 }
 
-// The share words for the point x, from place at on. Word k's coefficients are the k-th t random words.
-fn fill_words(t: usize, secret: &[u16], random: &[u16], x: u16, shares: &mut [u16], at: usize)
-    requires { ⌜ (length (now random) ≡ randomLength t (length (now secret))) × (at + length (now secret) ≤ length (now shares)) ⌝ }
-    ensures { λ r. ⌜ now (shares .exit) ≡ sets (now (shares .entry)) at (wordsAt t (now (secret .entry)) (now (random .entry)) x) ⌝ }
+// The share words for the point x, in member i's share. Word k's coefficients are the k-th t random words.
+fn fill_words(s: Shape, secret: &[u16], random: &[u16], x: u16, shares: &mut [u16], i: usize)
+    requires { ⌜ Room s (now shares) ⌝ }
+    requires { ⌜ Supplied s (now secret) (now random) ⌝ }
+    requires { ⌜ i < s .n ⌝ }
+    ensures { λ r. ⌜ now (shares .exit) ≡ stored s i (wordPlace 0) (wordsAt (s .t) (now (secret .entry)) (now (random .entry)) x) (now (shares .entry)) ⌝ }
 {
+    let at = shares::words_at(s, i);
+    let t = s.t;
     let mut from = 0;
     let mut k = 0;
     while k < secret.len() {
@@ -41,46 +45,55 @@ fn fill_words(t: usize, secret: &[u16], random: &[u16], x: u16, shares: &mut [u1
 }
 
 // Where key(i,j) stands among the random words: α there, β next.
-fn key_place(t: usize, d: usize, i: usize, j: usize) -> usize
-    requires { ⌜ (t ≤ 15) × (d ≤ 64) × (i < size t) × (j < size t) ⌝ }
-    ensures { λ r. ⌜ r ≡ t * d + 2 * (i * size t + j) ⌝ }
+fn key_place(s: Shape, i: usize, j: usize) -> usize
+    requires { ⌜ Station s ⌝ }
+    requires { ⌜ (i < s .n) × (j < s .n) ⌝ }
+    ensures { λ r. ⌜ KeyAt s i j r ⌝ }
 {
-    let n = 2 * t + 1;
-    t * d + 2 * (i * n + j)
+    s.t * s.d + 2 * (i * s.n + j)
 }
 
-// tag(i,j) of member i's share words, which stand at place at.
-fn tag_of(t: usize, d: usize, random: &[u16], shares: &[u16], at: usize, i: usize, j: usize) -> u16
-    requires { ⌜ (t ≤ 15) × (d ≤ 64) × (i < size t) × (j < size t) × (length (now random) ≡ randomLength t d) × (at + d ≤ length (now shares)) ⌝ }
-    ensures { λ r. ⌜ r ≡ tag (dealtα t d (now (random .entry)) j i) (dealtβ t d (now (random .entry)) j i) (take d (drop at (now (shares .entry)))) ⌝ }
+// tag(i,j) of member i's share words.
+fn tag_of(s: Shape, random: &[u16], words: &[u16], i: usize, j: usize) -> u16
+    requires { ⌜ Station s ⌝ }
+    requires { ⌜ (i < s .n) × (j < s .n) ⌝ }
+    requires { ⌜ length (now random) ≡ randomLength (s .t) (s .d) ⌝ }
+    ensures { λ r. ⌜ r ≡ tagOf (s .t) (s .d) (now (random .entry)) i (now (words .entry)) j ⌝ }
 {
-    let key = key_place(t, d, j, i);
-    let end = at + d;
-    mac::tag(random[key], random[key + 1], &shares[at..end])
+    let key = key_place(s, j, i);
+    mac::tag(random[key], random[key + 1], words)
 }
 
-// Member i's tags, after its share words, which stand at place at.
-fn fill_tags(t: usize, d: usize, random: &[u16], shares: &mut [u16], at: usize, i: usize)
-    requires { ⌜ (t ≤ 15) × (d ≤ 64) × (i < size t) × (length (now random) ≡ randomLength t d) × (at + d + size t ≤ length (now shares)) ⌝ }
-    ensures { λ r. ⌜ now (shares .exit) ≡ sets (now (shares .entry)) (at + d) (tagsOf t d (now (random .entry)) i (take d (drop at (now (shares .entry))))) ⌝ }
+// Member i's tags, in its share, of its share words, which stand there.
+fn fill_tags(s: Shape, random: &[u16], shares: &mut [u16], i: usize)
+    requires { ⌜ Room s (now shares) ⌝ }
+    requires { ⌜ length (now random) ≡ randomLength (s .t) (s .d) ⌝ }
+    requires { ⌜ i < s .n ⌝ }
+    ensures { λ r. ⌜ now (shares .exit) ≡ stored s i (tagPlace (s .d) 0) (tagsOf (s .t) (s .d) (now (random .entry)) i (shareWords (s .t) (s .d) (now (shares .entry)) i)) (now (shares .entry)) ⌝ }
 {
-    let n = 2 * t + 1;
+    let words = shares::words_at(s, i);
+    let end = words + s.d;
+    let at = shares::tags_at(s, i);
+    let n = s.n;
     let mut j = 0;
     while j < n {
-        shares[at + d + j] = tag_of(t, d, random, shares, at, i, j);
+        shares[at + j] = tag_of(s, random, &shares[words..end], i, j);
         j = j + 1;
     }
 }
 
-// Member i's keys, from place at on.
-fn fill_keys(t: usize, d: usize, random: &[u16], shares: &mut [u16], at: usize, i: usize)
-    requires { ⌜ (t ≤ 15) × (d ≤ 64) × (i < size t) × (length (now random) ≡ randomLength t d) × (at + 2 * size t ≤ length (now shares)) ⌝ }
-    ensures { λ r. ⌜ now (shares .exit) ≡ sets (now (shares .entry)) at (keysOf t d (now (random .entry)) i) ⌝ }
+// Member i's keys, in its share.
+fn fill_keys(s: Shape, random: &[u16], shares: &mut [u16], i: usize)
+    requires { ⌜ Room s (now shares) ⌝ }
+    requires { ⌜ length (now random) ≡ randomLength (s .t) (s .d) ⌝ }
+    requires { ⌜ i < s .n ⌝ }
+    ensures { λ r. ⌜ now (shares .exit) ≡ stored s i (keyPlace (s .t) (s .d) 0) (keysOf (s .t) (s .d) (now (random .entry)) i) (now (shares .entry)) ⌝ }
 {
-    let n = 2 * t + 1;
+    let at = shares::keys_at(s, i);
+    let n = s.n;
     let mut j = 0;
     while j < n {
-        let key = key_place(t, d, i, j);
+        let key = key_place(s, i, j);
         let place = at + 2 * j;
         shares[place] = random[key];
         shares[place + 1] = random[key + 1];
@@ -88,30 +101,61 @@ fn fill_keys(t: usize, d: usize, random: &[u16], shares: &mut [u16], at: usize, 
     }
 }
 
-// Member i's share, in its place.
-fn fill_share(t: usize, secret: &[u16], random: &[u16], shares: &mut [u16], i: usize)
-    requires { ⌜ (t ≤ 15) × (length (now secret) ≤ 64) × (i < size t) × (length (now random) ≡ randomLength t (length (now secret))) × (length (now shares) ≡ size t * width t (length (now secret))) ⌝ }
-    ensures { λ r. ⌜ now (shares .exit) ≡ sets (now (shares .entry)) (i * width t (length (now (secret .entry)))) (dealtShare (ownPoints t) t (now (secret .entry)) (now (random .entry)) i) ⌝ }
+// Member i's share, in its place. The member's point is points[i].
+fn fill_share(
+    s: Shape,
+    points: &[u16],
+    secret: &[u16],
+    random: &[u16],
+    shares: &mut [u16],
+    i: usize,
+)
+    requires { ⌜ Room s (now shares) ⌝ }
+    requires { ⌜ Supplied s (now secret) (now random) ⌝ }
+    requires { ⌜ (length (now points) ≡ s .n) × (i < s .n) ⌝ }
+    ensures { λ r. ⌜ now (shares .exit) ≡ stored s i 0 (dealtShare (now (points .entry)) (s .t) (now (secret .entry)) (now (random .entry)) i) (now (shares .entry)) ⌝ }
 {
-    let n = 2 * t + 1;
-    let d = secret.len();
-    let at = i * (d + 3 * n);
-    fill_words(t, secret, random, (i + 1) as u16, shares, at);
-    fill_tags(t, d, random, shares, at, i);
-    fill_keys(t, d, random, shares, at + d + n, i);
+    let x = points[i];
+    fill_words(s, secret, random, x, shares, i);
+    fill_tags(s, random, shares, i);
+    fill_keys(s, random, shares, i);
 }
 
 // All shares, in member order.
-fn fill_shares(t: usize, secret: &[u16], random: &[u16], shares: &mut [u16])
-    requires { ⌜ (t ≤ 15) × (length (now secret) ≤ 64) × (length (now random) ≡ randomLength t (length (now secret))) × (length (now shares) ≡ size t * width t (length (now secret))) ⌝ }
-    ensures { λ r. ⌜ now (shares .exit) ≡ dealtShares (ownPoints t) t (now (secret .entry)) (now (random .entry)) ⌝ }
+fn fill_shares(s: Shape, points: &[u16], secret: &[u16], random: &[u16], shares: &mut [u16])
+    requires { ⌜ Room s (now shares) ⌝ }
+    requires { ⌜ Supplied s (now secret) (now random) ⌝ }
+    requires { ⌜ length (now points) ≡ s .n ⌝ }
+    ensures { λ r. ⌜ now (shares .exit) ≡ dealtShares (now (points .entry)) (s .t) (now (secret .entry)) (now (random .entry)) ⌝ }
 {
-    let n = 2 * t + 1;
+    let n = s.n;
     let mut i = 0;
     while i < n {
-        fill_share(t, secret, random, shares, i);
+        fill_share(s, points, secret, random, shares, i);
         i = i + 1;
     }
+}
+
+// All shares at the members' own points, which are put into `points`.
+fn fill_at_own(s: Shape, points: &mut [u16], secret: &[u16], random: &[u16], shares: &mut [u16])
+    requires { ⌜ Room s (now shares) ⌝ }
+    requires { ⌜ Supplied s (now secret) (now random) ⌝ }
+    requires { ⌜ length (now points) ≡ s .n ⌝ }
+    ensures { λ r. ⌜ now (shares .exit) ≡ dealtShares (ownPoints (s .t)) (s .t) (now (secret .entry)) (now (random .entry)) ⌝ }
+{
+    members::own_points(points);
+    fill_shares(s, points, secret, random, shares);
+}
+
+// The same, with room for the points.
+fn fill(s: Shape, secret: &[u16], random: &[u16], shares: &mut [u16])
+    requires { ⌜ Room s (now shares) ⌝ }
+    requires { ⌜ Supplied s (now secret) (now random) ⌝ }
+    ensures { λ r. ⌜ now (shares .exit) ≡ dealtShares (ownPoints (s .t)) (s .t) (now (secret .entry)) (now (random .entry)) ⌝ }
+{
+    let mut points = [0u16; 31];
+    let n = s.n;
+    fill_at_own(s, &mut points[..n], secret, random, shares);
 }
 
 // The shares of the secret, from the random words, in member order.
@@ -125,11 +169,11 @@ pub fn deal(t: usize, secret: &[u16], random: &[u16], shares: &mut [u16]) -> Out
     if !lists::within(1, 64, d) {
         return Outcome::Refused(2);
     }
-    let n = 2 * t + 1;
-    if random.len() != t * d + 2 * (n * n) {
+    let s = shares::shape_of(t, d);
+    if random.len() != t * d + 2 * (s.n * s.n) {
         return Outcome::Refused(3);
     }
-    if shares.len() != n * (d + 3 * n) {
+    if shares.len() != s.n * s.width {
         return Outcome::Refused(4);
     }
     if !field::are_field_words(secret) {
@@ -138,6 +182,6 @@ pub fn deal(t: usize, secret: &[u16], random: &[u16], shares: &mut [u16]) -> Out
     if !field::are_field_words(random) {
         return Outcome::Refused(6);
     }
-    fill_shares(t, secret, random, shares);
+    fill(s, secret, random, shares);
     Outcome::Dealt
 }

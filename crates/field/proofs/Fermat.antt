@@ -5,9 +5,9 @@
 -- Assumes nothing.
 use mathlib.Core.Path.{_≡_, refl, sym, ap, ap₂, _∙_}
 use mathlib.Core.Logic.{_⊎_, inl, inr}
-use mathlib.Core.Bool.{Bool, true, not}
+use mathlib.Core.Bool.{true, not}
 use Prim.Native.Nat.{ℕ, zero, suc, _+_, _-_, _*_, _/_, _%_, _^_, _≤_, _<_, zero-le, suc-le-suc}
-use native.Mathlib.Nat.{mul-assoc, mul-comm, mul-one, one-mul, pow-suc, pow-zero, mod-lt, div-add-mod, div-lt-iff-lt-mul, not-suc-le-zero, le-of-suc-le-suc, mul-mod-left, mul-le-mul-left, mul-zero, zero-mul, add-zero, pow-succ'}
+use native.Mathlib.Nat.{mul-assoc, mul-comm, mul-one, one-mul, pow-suc, pow-zero, mod-lt, div-add-mod, not-suc-le-zero, le-of-suc-le-suc, mul-mod-left, mul-le-mul-left, mul-zero, zero-mul, add-zero, pow-succ'}
 use native.Mathlib.Decide.{decLe, ℕ-discrete}
 use native.Mathlib.Omega.{arith}
 use lib.Dec.{eqb, lit<}
@@ -16,7 +16,7 @@ use borrow.Author.Tests.{eqb-true, eqb-false, not-true}
 use Rattle.lists.specs.Tabulate.{all}
 use Rattle.lists.proofs.Tabulate.{all-elim}
 use Rattle.field.specs.Field.{prime, power, inverse}
-use Rattle.field.proofs.Congruence.{_≈_, same-refl, same-sym, same-trans, same-eq, eq-same, reduced, mult, times, _⊕_, _⊗_, power-same, lc}
+use Rattle.field.proofs.Congruence.{_≈_, same-refl, same-sym, same-trans, same-eq, eq-same, reduced, mult, times, _⊗_, power-same}
 
 pos : (n : ℕ) → (n ≡ 0 → ⊥) → 0 < n
 pos zero h = absurd (h refl)
@@ -172,11 +172,6 @@ inverse-law a h =
 pub inverse-word : (a : ℕ) → inverse a < 65521
 unfolding inverse power
 inverse-word a = mod-lt (a ^ (65519 % 2) * power 15 (a * a % prime) (65519 / 2)) (suc-le-suc zero-le)
-
-pub inverse-0 : (a : ℕ) → a ≈ 0 → inverse a ≡ 0
-inverse-0 a h =
-    eq-same (inverse-word a) (lit< tt)
-    (same-trans (inverse-is a) (same-trans (same-eq (pow-succ' a 65518)) (same-trans (h ⊗ same-refl) (same-eq (zero-mul (a ^ 65518))))))
 
 -- what is not 0 can be divided out
 pub cancel : (a : ℕ) {x y : ℕ} → (a ≈ 0 → ⊥) → a * x ≈ a * y → x ≈ y

@@ -1,8 +1,7 @@
 -- The field's sum, difference and product: field words, and what they are modulo p.
 -- Assumes nothing.
-use mathlib.Core.Path.{_≡_, refl}
-use Prim.Native.Nat.{ℕ, _+_, _-_, _*_, _%_, _<_, suc-le-suc, zero-le}
-use native.Mathlib.Nat.{mod-lt}
+use mathlib.Core.Path.{_≡_}
+use Prim.Native.Nat.{ℕ, _+_, _-_, _*_, _%_, _<_}
 use native.Mathlib.Omega.{arith}
 use Rattle.field.specs.Field.{prime, sum, difference, product}
 use Rattle.field.proofs.Congruence.{_≈_, same-refl, same-sym, same-trans, eq-same, reduced, _⊕_}

@@ -1,5 +1,5 @@
 -- Document 01's examples of the field, and corners that they leave open. Proved in proofs/Examples.antt.
-use Prim.Native.Nat.{ℕ, suc}
+use Prim.Native.Nat.{suc}
 use mathlib.Core.Path.{_≡_}
 use mathlib.Core.Bool.{true, false}
 use lib.ListN.{getD, replicate}

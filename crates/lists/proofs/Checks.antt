@@ -1,7 +1,6 @@
 -- Laws of checks in an order.
 -- Assumes nothing.
-use mathlib.Core.Path.{_≡_, refl, ap}
-use mathlib.Core.Logic.{inl, inr}
+use mathlib.Core.Path.{_≡_, refl, ap, _∙_}
 use mathlib.Core.Bool.{Bool, true, false}
 use mathlib.Core.List.{List, [], _∷_}
 use Prim.Native.Nat.{ℕ, zero, suc, _≤_, _<_}
@@ -10,7 +9,8 @@ use borrow.Author.Tests.{ltb-true, leb-true, le-leb}
 use lib.Dec.{leb, ltb}
 use Rattle.lists.specs.Checks.{Check, _unless_, checked, within, refusal}
 use Rattle.lists.specs.Tabulate.{each}
-use Rattle.lists.proofs.Bools.{test, and-intro, and-left, and-right}
+use Rattle.lists.proofs.Bools.{and-intro, and-left, and-right}
+use Rattle.lists.proofs.Every.{Every, none, more}
 
 module _ {A : Type 0} (refuse : ℕ → A) (number : ℕ) (passes : Bool) (later : List Check) (answer : A) where
   -- the first check fails
@@ -21,30 +21,29 @@ module _ {A : Type 0} (refuse : ℕ → A) (number : ℕ) (passes : Bool) (later
   pub check-passes : passes ≡ true → checked refuse (number unless passes ∷ later) answer ≡ checked refuse later answer
   check-passes e = ap (λ (b : Bool). checked refuse (number unless b ∷ later) answer) e
 
-module _ {A : Type 0} (refuse : ℕ → A) (c : Check) (cs : List Check) (answer : A) where
-  -- an answer with the number 0 has passed a check whose refusal has another number
-  pub pass-of : (number : A → ℕ) → (number (refuse (c .number)) ≡ 0 → ⊥) → number (checked refuse (c ∷ cs) answer) ≡ 0
-      → (c .passes ≡ true) × (number (checked refuse cs answer) ≡ 0)
-  pass-of number other h =
-      elim (test (c .passes)) [
-        | inl e ↦ (e, rw e at h)
-        | inr e ↦ absurd (other (rw e at h))
-      ]
-
 module _ {A : Type 0} (refuse : ℕ → A) (number : A → ℕ) (tells : (k : ℕ) → number (refuse k) ≡ k) where
   -- an answer with the number 0 has passed checks whose refusals have other numbers
+  pub all-pass : (cs : List Check) → each (λ c. ltb 0 (c .number)) cs ≡ true → (answer : A) → number (checked refuse cs answer) ≡ 0
+      → Every (λ c. c .passes ≡ true) cs
+  unfolding each
+  all-pass [] above answer h = none
+  all-pass (c ∷ cs) above answer h =
+      let (e, z) : (c .passes ≡ true) × (number (checked refuse cs answer) ≡ 0) =
+      at (c .passes) (ltb-true 0 (c .number) (and-left _ _ above)) h in
+      more e (all-pass cs (and-right (ltb 0 (c .number)) _ above) answer z)
+    where
+      at : (b : Bool) → 0 < c .number → number (elim b [ true ↦ checked refuse cs answer | false ↦ refuse (c .number) ]) ≡ 0
+          → (b ≡ true) × (number (checked refuse cs answer) ≡ 0)
+      at true low z = (refl, z)
+      at false low z = absurd (omega (arith, tells (c .number)))
+
+  every-passed : {cs : List Check} → Every (λ c. c .passes ≡ true) cs → (answer : A) → checked refuse cs answer ≡ answer
+  every-passed none answer = refl
+  every-passed (more {x = c} {xs = cs} e es) answer = check-passes refuse (c .number) (c .passes) cs answer e ∙ every-passed es answer
+
   pub all-passed : (cs : List Check) → each (λ c. ltb 0 (c .number)) cs ≡ true → (answer : A) → number (checked refuse cs answer) ≡ 0
       → checked refuse cs answer ≡ answer
-  unfolding each
-  all-passed [] above answer h = refl
-  all-passed (c ∷ cs) above answer h =
-      at (c .passes) (ltb-true 0 (c .number) (and-left _ _ above)) (all-passed cs (and-right (ltb 0 (c .number)) _ above) answer) h
-    where
-      at : (b : Bool) → 0 < c .number → (number (checked refuse cs answer) ≡ 0 → checked refuse cs answer ≡ answer)
-          → number (elim b [ true ↦ checked refuse cs answer | false ↦ refuse (c .number) ]) ≡ 0
-          → elim b [ true ↦ checked refuse cs answer | false ↦ refuse (c .number) ] ≡ answer
-      at true low rest z = rest z
-      at false low rest z = absurd (omega (arith, tells (c .number)))
+  all-passed cs above answer h = every-passed (all-pass cs above answer h) answer
 
   -- every refusal's number fits, so the answer's does
   pub number-fits : (cs : List Check) → each (λ c. leb (c .number) 65535) cs ≡ true → (answer : A) → number answer ≤ 65535

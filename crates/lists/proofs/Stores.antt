@@ -54,26 +54,22 @@ module _ {A : Type 0} where
   -- a loop that has stored the first j of n words
   pub record Filled (n : ℕ) (f : ℕ → A) (l : List A) (at : ℕ) (now : List A) (j : ℕ) : Type 0 where
     pub inside : j ≤ n
+    pub long : length now ≡ length l
     pub so-far : now ≡ sets l at (tab j f)
 
   pub filled-first : (n : ℕ) (f : ℕ → A) (l : List A) (at : ℕ) → Filled n f l at l 0
   unfolding tab
-  filled-first n f l at = record { inside = zero-le; so-far = refl }
-
-  pub filled-length : (n : ℕ) (f : ℕ → A) (l : List A) (at : ℕ) (now : List A) (j : ℕ) → Filled n f l at now j → length now ≡ length l
-  filled-length n f l at now j t = sets-length l (tab j f) now at (t .so-far)
+  filled-first n f l at = record { inside = zero-le; long = refl; so-far = refl }
 
   pub filled-next : (n : ℕ) (f : ℕ → A) (l : List A) (at : ℕ) (now : List A) (j place : ℕ) (a : A) → j < n → Filled n f l at now j
       → place ≡ at + j → a ≡ f j → Filled n f l at (set now place a) (j + 1)
   filled-next n f l at now j place a h t ep ea =
-      record {
-        inside = omega arith;
-        so-far =
-            ap (λ (s : List A). set s place a) (t .so-far)
-            ∙ ap₂ (λ (p : ℕ) (w : A). set (sets l at (tab j f)) p w) ep ea
-            ∙ sym (sets-then l (tab j f) (f j ∷ []) at j (length-tab j f))
-            ∙ ap (sets l at) (sym (ap (λ (k : ℕ). tab k f) (add-one j) ∙ tab-more j f));
-      }
+      let done : set now place a ≡ sets l at (tab (j + 1) f) =
+      ap (λ (s : List A). set s place a) (t .so-far)
+      ∙ ap₂ (λ (p : ℕ) (w : A). set (sets l at (tab j f)) p w) ep ea
+      ∙ sym (sets-then l (tab j f) (f j ∷ []) at j (length-tab j f))
+      ∙ ap (sets l at) (sym (ap (λ (k : ℕ). tab k f) (add-one j) ∙ tab-more j f)) in
+      record { inside = omega arith; long = sets-length l (tab (j + 1) f) (set now place a) at done; so-far = done }
 
   pub filled-last : (n : ℕ) (f : ℕ → A) (l : List A) (at : ℕ) (now : List A) (j : ℕ) → n ≤ j → Filled n f l at now j → now ≡ sets l at (tab n f)
   filled-last n f l at now j h t =
@@ -83,26 +79,22 @@ module _ {A : Type 0} where
   -- a loop that has stored the first j of n lists, each of w words
   pub record Joined (n w : ℕ) (f : ℕ → List A) (l : List A) (at : ℕ) (now : List A) (j : ℕ) : Type 0 where
     pub inside : j ≤ n
+    pub long : length now ≡ length l
     pub so-far : now ≡ sets l at (concat (tab j f))
 
   pub joined-first : (n w : ℕ) (f : ℕ → List A) (l : List A) (at : ℕ) → Joined n w f l at l 0
   unfolding tab concat
-  joined-first n w f l at = record { inside = zero-le; so-far = refl }
-
-  pub joined-length : (n w : ℕ) (f : ℕ → List A) (l : List A) (at : ℕ) (now : List A) (j : ℕ) → Joined n w f l at now j → length now ≡ length l
-  joined-length n w f l at now j t = sets-length l (concat (tab j f)) now at (t .so-far)
+  joined-first n w f l at = record { inside = zero-le; long = refl; so-far = refl }
 
   pub joined-next : (n w : ℕ) (f : ℕ → List A) (l : List A) (at : ℕ) (now next : List A) (j place : ℕ) → ((i : ℕ) → i < n → length (f i) ≡ w) → j < n
       → Joined n w f l at now j → place ≡ at + j * w → next ≡ sets now place (f j) → Joined n w f l at next (j + 1)
   joined-next n w f l at now next j place lengths h t ep en =
-      record {
-        inside = omega arith;
-        so-far =
-            en
-            ∙ ap₂ (λ (s : List A) (p : ℕ). sets s p (f j)) (t .so-far) ep
-            ∙ sym (sets-then l (concat (tab j f)) (f j) at (j * w) (length-concat j w f (λ i p. lengths i (omega arith))))
-            ∙ ap (sets l at) (sym (ap (λ (k : ℕ). concat (tab k f)) (add-one j) ∙ concat-more j f));
-      }
+      let done : next ≡ sets l at (concat (tab (j + 1) f)) =
+      en
+      ∙ ap₂ (λ (s : List A) (p : ℕ). sets s p (f j)) (t .so-far) ep
+      ∙ sym (sets-then l (concat (tab j f)) (f j) at (j * w) (length-concat j w f (λ i p. lengths i (omega arith))))
+      ∙ ap (sets l at) (sym (ap (λ (k : ℕ). concat (tab k f)) (add-one j) ∙ concat-more j f)) in
+      record { inside = omega arith; long = sets-length l (concat (tab (j + 1) f)) next at done; so-far = done }
 
   pub joined-last : (n w : ℕ) (f : ℕ → List A) (l : List A) (at : ℕ) (now : List A) (j : ℕ) → n ≤ j → Joined n w f l at now j → now ≡ sets l at (concat (tab n f))
   joined-last n w f l at now j h t =

@@ -1,8 +1,8 @@
 -- Interpolation at distinct points meets every point, with as many coefficients as points, all field words.
 -- Assumes nothing.
-use mathlib.Core.Path.{_≡_, refl, sym, ap, ap₂, _∙_}
+use mathlib.Core.Path.{_≡_, refl, sym, ap, _∙_}
 use mathlib.Core.List.{List, [], _∷_}
-use Prim.Native.Nat.{ℕ, zero, suc, _+_, _*_, _≤_, _<_}
+use Prim.Native.Nat.{ℕ, suc, _+_, _*_, _<_}
 use native.Mathlib.Nat.{suc-ne-zero, suc-inj}
 use native.Mathlib.Omega.{arith}
 use lib.ListN.{length}
@@ -13,7 +13,7 @@ use Rattle.field.proofs.Fermat.{inverse-law}
 use Rattle.field.proofs.Operations.{difference-same, product-same}
 use Rattle.polynomial.specs.Polynomial.{eval, linear, slopes, interpolate}
 use Rattle.polynomial.proofs.Evaluation.{length-linear, linear-words, eval-linear}
-use Rattle.polynomial.proofs.Roots.{Distinct, distinct-none, distinct-more}
+use Rattle.polynomial.proofs.Roots.{Distinct, distinct-more}
 
 -- f has the values ys at the points xs
 pub data Meets (f : List ℕ) : List ℕ → List ℕ → Type 0 where

@@ -2,17 +2,16 @@
 -- Assumes nothing.
 use mathlib.Core.Path.{_≡_, refl, sym, ap, ap₂, _∙_}
 use mathlib.Core.List.{List, [], _∷_, _++_, append-assoc, append-nil}
-use Prim.Native.Nat.{ℕ, zero, suc, _+_, _-_, _≤_, _<_, zero-le}
+use Prim.Native.Nat.{ℕ, zero, suc, _+_, _-_, _≤_, _<_}
 use native.Mathlib.Nat.{le-refl, not-suc-le-zero}
 use native.Mathlib.Numerals.{add-one, sub-one}
 use native.Mathlib.Omega.{arith}
-use lib.ListN.{length, getD, take, drop, length-append, length-take, length-drop, drop-of-length-le, List·getD-append}
-use lib.Seq.{take-at, drop-at, take-all, take-suc, drop-cons, length-take-le, take-length, drop-length, getD-at}
+use lib.ListN.{length, getD, take, drop, length-append, length-drop, drop-of-length-le}
+use lib.Seq.{take-at, drop-at, take-all, take-suc, drop-cons, length-take-le, drop-length, getD-at}
 use Rattle.lists.proofs.InPlace.{left-cons}
 use borrow.Author.Tests.{eq-eqb, ne-eqb}
 use Rattle.polynomial.specs.Polynomial.{linear, slopes, interpolate, interpolated}
 use Rattle.polynomial.specs.Internal.Newton.{slopesFrom, divided, linearFrom, expanded}
-use Rattle.polynomial.proofs.Evaluation.{length-linear}
 use Rattle.polynomial.proofs.Interpolation.{length-slopes}
 
 -- coefficients from divided differences
@@ -28,9 +27,6 @@ pub record Divided (xs : List ℕ) (n : ℕ) (whole ys : List ℕ) (i : ℕ) : T
   pub long : length ys ≡ length xs
   pub kept : length ys ≡ n
   pub so-far : take i ys ++ divided (drop i xs) (drop i ys) ≡ whole
-
-pub divided-first : (xs ys : List ℕ) → length ys ≡ length xs → Divided xs (length ys) (divided xs ys) ys 0
-divided-first xs ys e = record { inside = zero-le; long = e; kept = refl; so-far = refl }
 
 length-from : (xs ys : List ℕ) (i : ℕ) → length ys ≡ length xs → i < length xs → length (slopesFrom xs ys i) ≡ length ys
 unfolding slopesFrom

@@ -2,18 +2,17 @@
 -- n distinct points are the same.
 -- Assumes nothing.
 use mathlib.Core.Path.{_≡_, refl, sym, ap, ap₂, _∙_, subst}
-use mathlib.Core.Logic.{_⊎_, inl, inr}
+use mathlib.Core.Logic.{inl, inr}
 use mathlib.Core.List.{List, [], _∷_, Sublistᴰ, Sublistᴰ·slnil, Sublistᴰ·cons, Sublistᴰ·cons-cons}
-use Prim.Native.Nat.{ℕ, zero, suc, _+_, _*_, _%_, _≤_, _<_, zero-le, suc-le-suc}
-use native.Mathlib.Nat.{mul-zero, mul-comm, not-suc-le-zero, le-of-suc-le-suc, le-of-eq, le-trans, suc-ne-zero, suc-inj}
+use Prim.Native.Nat.{ℕ, zero, suc, _+_, _*_, _≤_, _<_, zero-le, suc-le-suc}
+use native.Mathlib.Nat.{not-suc-le-zero, le-of-suc-le-suc, le-of-eq, le-trans, suc-ne-zero, suc-inj}
 use native.Mathlib.Omega.{arith}
 use lib.ListN.{length}
 use Rattle.lists.specs.Tabulate.{tab}
 use Rattle.lists.proofs.Blocks.{every-tab}
 use Rattle.lists.proofs.Choose.{every-sub}
 use Rattle.lists.proofs.Every.{Every, none, more, every-map, every-both}
-use Rattle.field.specs.Field.{prime}
-use Rattle.field.proofs.Congruence.{_≈_, same-refl, same-sym, same-trans, same-eq, eq-same, reduced, mult, times, _⊕_, _⊗_, lc}
+use Rattle.field.proofs.Congruence.{_≈_, same-sym, same-trans, eq-same, reduced, mult, times, _⊕_, lc}
 use Rattle.field.proofs.Fermat.{no-zero-divisors}
 use Rattle.polynomial.specs.Polynomial.{eval}
 use Rattle.polynomial.proofs.Evaluation.{eval-zero, combine, length-combine, eval-combine}

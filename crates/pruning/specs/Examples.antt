@@ -1,7 +1,7 @@
 -- Document 01's examples of pruning, and corners that they leave open. Proved in proofs/Examples.antt.
 use Prim.Native.Nat.{ℕ, _^_}
 use mathlib.Core.Path.{_≡_}
-use mathlib.Core.List.{List, [], _∷_}
+use mathlib.Core.List.{[], _∷_}
 use lib.ListN.{replicate}
 use Rattle.pruning.specs.Pruning.{Pruned, prune}
 

@@ -80,7 +80,7 @@ pub fn prune(t: usize, rows: &[u32]) -> Survivors
     if !members::threshold(t) {
         return Survivors::Refused(1);
     }
-    let n = 2 * t + 1;
+    let n = members::size(t);
     if rows.len() != n {
         return Survivors::Refused(10);
     }

@@ -5,3 +5,4 @@ pub mod Places
 pub mod Reading
 pub mod Same
 pub mod Shapes
+pub mod Storing

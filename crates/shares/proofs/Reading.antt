@@ -7,6 +7,8 @@ use native.Mathlib.Omega.{arith}
 use lib.ListN.{length, getD, take, drop, length-drop}
 use lib.Seq.{ext-getD, getD-take, getD-drop, length-take-le}
 use Rattle.lists.specs.Tabulate.{tab}
+use Rattle.lists.proofs.Blocks.{every-getD}
+use Rattle.lists.proofs.Every.{Every}
 use Rattle.lists.proofs.Tabulate.{length-tab, getD-tab, tab-ext}
 use Rattle.shares.specs.Layout.{wordPlace, tagPlace, keyPlace, word, shareWord, shareWords, tagWord, keyα, keyβ}
 use Rattle.shares.specs.Internal.Shape.{Room, At}
@@ -15,6 +17,11 @@ use Rattle.shares.specs.declared.Shape.{Shape}
 -- a part from p to its end, as the code lends it
 pub lent : {A : Type 0} (p m : ℕ) (l : List A) → take (p + m - p) (drop p l) ≡ take m (drop p l)
 lent p m l = ap (λ (n : ℕ). take n (drop p l)) {x = p + m - p} {y = m} (omega arith)
+
+-- what holds of every word, and of 0, holds at every place
+pub word-every : {P : ℕ → Type 0} {words : List ℕ} (t d i k : ℕ) → P 0 → Every P words → P (word t d words i k)
+unfolding word
+word-every t d i k z h = every-getD h 0 z _
 
 module _ (s : Shape) (words : List ℕ) (room : Room s words) where
   abbrev at-place : ℕ → ℕ → ℕ

@@ -1,118 +1,100 @@
--- `dealing::deal` meets its contract: each way out is a check that fails, or the shares dealt.
+-- `dealing::deal`: each check of the definition is tested in its order, and once all have passed the shares are what `fill` makes.
 -- Assumes nothing.
-use borrow.Author.Needs.{needs}
-use borrow.Author.Tests.{eq-eqb, ne-eqb}
+use mathlib.Core.Path.{_≡_, refl, sym, ap, subst, _∙_}
+use mathlib.Core.Bool.{true}
+use mathlib.Core.List.{List}
+use Prim.Native.Nat.{ℕ, _+_, _*_, _≤_}
+use native.Mathlib.Nat.{le-refl}
 use native.Mathlib.Omega.{arith}
 use lib.ListN.{length}
+use borrow.Author.Needs.{needs}
 use Rattle.lists.proofs.Bools.{fails, passes}
-use Rattle.lists.proofs.Checks.{within-high}
-use Rattle.members.specs.Members.{size}
-use Rattle.shares.specs.Layout.{width}
-use Rattle.dealing.specs.Dealing.{randomLength}
-use Rattle.dealing.proofs.Places.{coefficients-le, square-le}
+use Rattle.members.specs.Members.{isThreshold, size, ownPoints}
+use Rattle.shares.specs.Layout.{isLength, width}
+use Rattle.shares.specs.Internal.Shape.{InRange, shapeOf, Station}
+use Rattle.shares.specs.declared.Shape.{Shape}
+use Rattle.shares.proofs.Shapes.{in-range, station-of}
+use Rattle.dealing.specs.Dealing.{randomLength, dealtShares}
+use Rattle.dealing.specs.Internal.Steps.{Supplied}
+use Rattle.dealing.proofs.Places.{coefficients-le, row-le}
 use Rattle.dealing.proofs.Refusals.{refused-1, refused-2, refused-3, refused-4, refused-5, refused-6, dealt}
 use Rattle.dealing.proofs.deal.Statement.{statement}
 use Rattle.dealing.proofs.deal.Tie as tie
 
-threshold-requires : tie.Need-threshold-requires
-threshold-requires c κs = tt
+-- what the checks of t and d show
+threshold : (c : tie.Else1) → let entry : tie.Start = search in isThreshold (entry .args .t) ≡ true
+threshold c = search passes
 
-returns : tie.Need-returns
-returns c = refused-1 _ _ _ _ (fails _ _ (c .before .threshold .ensures) (c .if1 .taken))
+secret-length : (c : tie.Else2) → let entry : tie.Start = search in isLength (length (entry .args .secret .now)) ≡ true
+secret-length c = search passes
 
-within-requires : tie.Need-within-requires
-within-requires c κs = tt
+range : (c : tie.Else2) → let entry : tie.Start = search in InRange (entry .args .t) (length (entry .args .secret .now))
+range c = let e : tie.Else1 = search in in-range _ _ (threshold e) (secret-length c)
 
-returns-2 : tie.Need-returns-2
-returns-2 c = refused-2 _ _ _ _ (passes _ _ (c .before .before .before .threshold .ensures) (c .before .before .if1 .left)) (fails _ _ (c .before .within .ensures) (c .if2 .taken))
+-- the shape is a station, and has the lengths of the definition
+module _ (t d : ℕ) (s : Shape) (e : s ≡ shapeOf t d) where
+  random-is : t * d + 2 * (s .n * s .n) ≡ randomLength t d
+  unfolding randomLength
+  random-is = ap (λ (x : Shape). t * d + 2 * (x .n * x .n)) e
 
-mul-n : tie.Need-mul-n
-mul-n c = omega (arith, within-high 1 15 (c .before .before .before .before .before .before .before .args .t) (passes _ _ (c .before .before .before .threshold .ensures) (c .before .before .if1 .left)))
+  shares-are : s .n * s .width ≡ size t * width t d
+  shares-are = ap (λ (x : Shape). x .n * x .width) e
 
-add-n : tie.Need-add-n
-add-n c = omega (arith, within-high 1 15 (c .before .before .before .before .before .before .before .args .t) (passes _ _ (c .before .before .before .threshold .ensures) (c .before .before .if1 .left)))
+  supplied : (secret random : List ℕ) → length secret ≡ d → length random ≡ randomLength t d → Supplied s secret random
+  supplied secret random es er = subst (λ (x : Shape). Supplied x secret random) (sym e) (record { secret-long = es; random-long = er })
 
-mul-if3 : tie.Need-mul-if3
-mul-if3 c = omega (arith, coefficients-le _ _ (within-high 1 15 (c .before .before .before .before .before .before .before .args .t) (passes _ _ (c .before .before .before .threshold .ensures) (c .before .before .if1 .left))) (within-high 1 64 (length (c .before .before .before .before .before .before .before .args .secret .now)) (passes _ _ (c .before .within .ensures) (c .if2 .left))))
+  at-own : (secret random shares : List ℕ) → shares ≡ dealtShares (ownPoints (s .t)) (s .t) secret random
+      → shares ≡ dealtShares (ownPoints t) t secret random
+  at-own secret random shares es = es ∙ ap (λ (x : Shape). dealtShares (ownPoints (x .t)) (x .t) secret random) e
 
-mul-if3-2 : tie.Need-mul-if3-2
-unfolding size
-mul-if3-2 c = omega (arith, square-le _ (within-high 1 15 (c .before .before .before .before .before .before .before .args .t) (passes _ _ (c .before .before .before .threshold .ensures) (c .before .before .if1 .left))))
+station : (c : tie.After-shape-of) → Station (c .shape-of .result)
+station c = let e : tie.Else2 = search in station-of _ _ _ (range e) (c .shape-of .ensures)
 
-mul-if3-3 : tie.Need-mul-if3-3
-unfolding size
-mul-if3-3 c = omega (arith, square-le _ (within-high 1 15 (c .before .before .before .before .before .before .before .args .t) (passes _ _ (c .before .before .before .threshold .ensures) (c .before .before .if1 .left))))
+small : (c : tie.After-shape-of)
+    → let entry : tie.Start = search in
+    (entry .args .t * length (entry .args .secret .now) ≤ 960) × (c .shape-of .result .n * c .shape-of .result .n ≤ 961)
+small c = let e : tie.Else2 = search in (coefficients-le _ _ (range e), row-le _ (station c) _ (le-refl _))
 
-add-if3 : tie.Need-add-if3
-unfolding size
-add-if3 c = omega (arith, square-le _ (within-high 1 15 (c .before .before .before .before .before .before .before .args .t) (passes _ _ (c .before .before .before .threshold .ensures) (c .before .before .if1 .left))), coefficients-le _ _ (within-high 1 15 (c .before .before .before .before .before .before .before .args .t) (passes _ _ (c .before .before .before .threshold .ensures) (c .before .before .if1 .left))) (within-high 1 64 (length (c .before .before .before .before .before .before .before .args .secret .now)) (passes _ _ (c .before .within .ensures) (c .if2 .left))))
+random-length : (c : tie.Else3) → let entry : tie.Start = search in length (entry .args .random .now) ≡ randomLength (entry .args .t) (length (entry .args .secret .now))
+random-length c = let made : tie.After-shape-of = search in c .if3 .left ∙ random-is _ _ _ (made .shape-of .ensures)
 
-returns-3 : tie.Need-returns-3
-unfolding size randomLength width
-returns-3 c = refused-3 _ _ _ _ (passes _ _ (c .before .before .before .before .threshold .ensures) (c .before .before .before .if1 .left)) (passes _ _ (c .before .before .within .ensures) (c .before .if2 .left)) (ne-eqb _ _ (c .if3 .taken))
-
-mul-if4 : tie.Need-mul-if4
-mul-if4 c = omega (arith, within-high 1 15 (c .before .before .before .before .before .before .before .before .args .t) (passes _ _ (c .before .before .before .before .threshold .ensures) (c .before .before .before .if1 .left)))
-
-add-if4 : tie.Need-add-if4
-add-if4 c = omega (arith, within-high 1 15 (c .before .before .before .before .before .before .before .before .args .t) (passes _ _ (c .before .before .before .before .threshold .ensures) (c .before .before .before .if1 .left)), within-high 1 64 (length (c .before .before .before .before .before .before .before .before .args .secret .now)) (passes _ _ (c .before .before .within .ensures) (c .before .if2 .left)))
-
-mul-if4-2 : tie.Need-mul-if4-2
-unfolding size
-mul-if4-2 c = omega (arith, square-le _ (within-high 1 15 (c .before .before .before .before .before .before .before .before .args .t) (passes _ _ (c .before .before .before .before .threshold .ensures) (c .before .before .before .if1 .left))), coefficients-le _ _ (within-high 1 15 (c .before .before .before .before .before .before .before .before .args .t) (passes _ _ (c .before .before .before .before .threshold .ensures) (c .before .before .before .if1 .left))) (within-high 1 64 (length (c .before .before .before .before .before .before .before .before .args .secret .now)) (passes _ _ (c .before .before .within .ensures) (c .before .if2 .left))), within-high 1 15 (c .before .before .before .before .before .before .before .before .args .t) (passes _ _ (c .before .before .before .before .threshold .ensures) (c .before .before .before .if1 .left)), within-high 1 64 (length (c .before .before .before .before .before .before .before .before .args .secret .now)) (passes _ _ (c .before .before .within .ensures) (c .before .if2 .left)))
-
-returns-4 : tie.Need-returns-4
-unfolding size randomLength width
-returns-4 c = refused-4 _ _ _ _ (passes _ _ (c .before .before .before .before .before .threshold .ensures) (c .before .before .before .before .if1 .left)) (passes _ _ (c .before .before .before .within .ensures) (c .before .before .if2 .left)) (eq-eqb _ _ (c .before .if3 .left)) (ne-eqb _ _ (c .if4 .taken))
-
-are-field-words-requires : tie.Need-are-field-words-requires
-are-field-words-requires c κs = tt
-
-returns-5 : tie.Need-returns-5
-unfolding size randomLength width
-returns-5 c = refused-5 _ _ _ _ (passes _ _ (c .before .before .before .before .before .before .before .threshold .ensures) (c .before .before .before .before .before .before .if1 .left)) (passes _ _ (c .before .before .before .before .before .within .ensures) (c .before .before .before .before .if2 .left)) (eq-eqb _ _ (c .before .before .before .if3 .left)) (eq-eqb _ _ (c .before .before .if4 .left)) (fails _ _ (c .before .are-field-words .ensures) (c .if5 .taken))
-
-are-field-words-requires-2 : tie.Need-are-field-words-requires-2
-are-field-words-requires-2 c κs = tt
-
-returns-6 : tie.Need-returns-6
-unfolding size randomLength width
-returns-6 c = refused-6 _ _ _ _ (passes _ _ (c .before .before .before .before .before .before .before .before .before .threshold .ensures) (c .before .before .before .before .before .before .before .before .if1 .left)) (passes _ _ (c .before .before .before .before .before .before .before .within .ensures) (c .before .before .before .before .before .before .if2 .left)) (eq-eqb _ _ (c .before .before .before .before .before .if3 .left)) (eq-eqb _ _ (c .before .before .before .before .if4 .left)) (passes _ _ (c .before .before .before .are-field-words .ensures) (c .before .before .if5 .left)) (fails _ _ (c .before .are-field-words2 .ensures) (c .if6 .taken))
-
-fill-shares-requires : tie.Need-fill-shares-requires
-unfolding size randomLength width
-fill-shares-requires c κs = (within-high 1 15 (c .before .before .before .before .before .before .before .before .before .before .before .before .before .before .args .t) (passes _ _ (c .before .before .before .before .before .before .before .before .before .before .threshold .ensures) (c .before .before .before .before .before .before .before .before .before .if1 .left)), within-high 1 64 (length (c .before .before .before .before .before .before .before .before .before .before .before .before .before .before .args .secret .now)) (passes _ _ (c .before .before .before .before .before .before .before .before .within .ensures) (c .before .before .before .before .before .before .before .if2 .left)), c .before .before .before .before .before .before .if3 .left, c .before .before .before .before .before .if4 .left)
-
-same-length : tie.Need-same-length
-same-length c = search needs
-
-returns-7 : tie.Need-returns-7
-unfolding size randomLength width
-returns-7 c = dealt _ _ _ _ (passes _ _ (c .before .before .before .before .before .before .before .before .before .before .before .before .before .threshold .ensures) (c .before .before .before .before .before .before .before .before .before .before .before .before .if1 .left)) (passes _ _ (c .before .before .before .before .before .before .before .before .before .before .before .within .ensures) (c .before .before .before .before .before .before .before .before .before .before .if2 .left)) (eq-eqb _ _ (c .before .before .before .before .before .before .before .before .before .if3 .left)) (eq-eqb _ _ (c .before .before .before .before .before .before .before .before .if4 .left)) (passes _ _ (c .before .before .before .before .before .before .before .are-field-words .ensures) (c .before .before .before .before .before .before .if5 .left)) (passes _ _ (c .before .before .before .before .before .are-field-words2 .ensures) (c .before .before .before .before .if6 .left)) _ (c .before .before .fill-shares .ensures)
+buffer-length : (c : tie.Else4)
+    → let entry : tie.Start = search in
+    length (entry .args .shares .now) ≡ size (entry .args .t) * width (entry .args .t) (length (entry .args .secret .now))
+buffer-length c = let made : tie.After-shape-of = search in c .if4 .left ∙ shares-are _ _ _ (made .shape-of .ensures)
 
 pub deal-spec : {M : Type 1} → statement M
 deal-spec =
     tie.close
     (tie.spec
-    threshold-requires
-    returns
-    within-requires
-    returns-2
-    mul-n
-    add-n
-    mul-if3
-    mul-if3-2
-    mul-if3-3
-    add-if3
-    returns-3
-    mul-if4
-    add-if4
-    mul-if4-2
-    returns-4
-    are-field-words-requires
-    returns-5
-    are-field-words-requires-2
-    returns-6
-    fill-shares-requires
-    same-length
-    returns-7)
+    -- 1, 2
+    (λ c κs. tt)
+    (λ c. search (fails, refused-1))
+    (λ c κs. tt)
+    (λ c. search (fails, refused-2, threshold))
+    -- let s = shares::shape_of(t, d);
+    (λ c κs. search range)
+    -- 3
+    (λ c. let made : tie.After-shape-of = search in omega (arith, small made))
+    (λ c. let made : tie.After-shape-of = search in omega (arith, small made))
+    (λ c. let made : tie.After-shape-of = search in omega (arith, small made))
+    (λ c. let made : tie.After-shape-of = search in omega (arith, small made))
+    (λ c.
+    let (e₁, e₂, made) : tie.Else1 × tie.Else2 × tie.After-shape-of = (search, search, search) in
+    refused-3 _ _ _ _ (threshold e₁) (secret-length e₂) (λ g. c .if3 .taken (g ∙ sym (random-is _ _ _ (made .shape-of .ensures)))))
+    -- 4
+    (λ c. let made : tie.After-shape-of = search in omega (arith, station made))
+    (λ c.
+    let (e₁, e₂, made, e₃) : tie.Else1 × tie.Else2 × tie.After-shape-of × tie.Else3 = (search, search, search, search) in
+    refused-4 _ _ _ _ (threshold e₁) (secret-length e₂) (random-length e₃) (λ g. c .if4 .taken (g ∙ sym (shares-are _ _ _ (made .shape-of .ensures)))))
+    -- 5, 6
+    (λ c κs. tt)
+    (λ c. search (fails, refused-5, threshold, secret-length, random-length, buffer-length))
+    (λ c κs. tt)
+    (λ c. search (fails, passes, refused-6, threshold, secret-length, random-length, buffer-length))
+    -- fill(s, secret, random, shares);
+    (λ c κs.
+    let (made, e₃, e₄) : tie.After-shape-of × tie.Else3 × tie.Else4 = (search, search, search) in
+    (record { station = station made; long = e₄ .if4 .left }, supplied _ _ _ (made .shape-of .ensures) _ _ refl (random-length e₃)))
+    (λ c. search needs)
+    (λ c. search (passes, dealt, threshold, secret-length, random-length, buffer-length, at-own)))

@@ -1,124 +1,53 @@
--- `dealing::fill_keys` meets its contract. The loop's invariant: the first j keys stand in their places.
+-- `dealing::fill_keys`: before turn j the first j keys stand in their places, α and β of each one after the other.
 -- Assumes nothing.
-use mathlib.Core.Path.{_≡_, refl, ap, _∙_}
+use mathlib.Core.Path.{_≡_, refl, ap, ap₂, _∙_}
 use mathlib.Core.List.{List, [], _∷_}
-use Prim.Native.Nat.{ℕ, suc, _+_, _-_, _*_, _<_}
+use Prim.Native.Nat.{ℕ, suc, _+_, _-_, _*_, _≤_, _<_}
 use native.Mathlib.Numerals.{add-one}
 use native.Mathlib.Omega.{arith}
 use lib.ListN.{getD, set, length-set}
-use Rattle.lists.proofs.Stores.{Joined, joined-first, joined-length, joined-next, joined-last}
-use Rattle.members.specs.Members.{size}
+use lib.Seq.{sets}
+use borrow.Author.Needs.{needs}
+use Rattle.lists.specs.Tabulate.{tab, concat}
+use Rattle.lists.proofs.Stores.{Joined, joined-first, joined-next, joined-last}
+use Rattle.shares.specs.Internal.Shape.{Station, At, stored}
+use Rattle.shares.specs.declared.Shape.{Shape}
+use Rattle.shares.proofs.Storing.{stored-at}
 use Rattle.dealing.specs.Dealing.{dealtα, dealtβ}
-use Rattle.dealing.specs.Internal.Steps.{keysOf}
-use Rattle.dealing.proofs.Places.{key-inside}
+use Rattle.dealing.specs.Internal.Steps.{KeyAt, keysOf}
+use Rattle.dealing.proofs.Places.{α-there, β-there}
 use Rattle.dealing.proofs.fill_keys.Statement.{statement}
 use Rattle.dealing.proofs.fill_keys.Tie as tie
 
-abbrev key : ℕ → ℕ → List ℕ → ℕ → ℕ → List ℕ
-key t d random i j = dealtα t d random i j ∷ dealtβ t d random i j ∷ []
+abbrev key : Shape → List ℕ → ℕ → ℕ → List ℕ
+key s random i j = dealtα (s .t) (s .d) random i j ∷ dealtβ (s .t) (s .d) random i j ∷ []
 
-abbrev Turn : ℕ → ℕ → List ℕ → List ℕ → ℕ → ℕ → List ℕ → ℕ → Type 0
-Turn t d random shares₀ at i shares j = Joined (size t) 2 (key t d random i) shares₀ at shares j
+abbrev Turn : Shape → List ℕ → List ℕ → ℕ → ℕ → List ℕ → ℕ → Type 0
+Turn s random shares₀ i at shares j = Joined (s .n) 2 (key s random i) shares₀ at shares j
 
-next : (t d : ℕ) (random shares₀ : List ℕ) (at i : ℕ) (shares : List ℕ) (j from : ℕ) → j < size t → Turn t d random shares₀ at i shares j
-    → from ≡ t * d + 2 * (i * size t + j)
-    → Turn t d random shares₀ at i (set (set shares (at + 2 * j) (getD random from 0)) (at + 2 * j + 1) (getD random (from + 1) 0)) (j + 1)
-unfolding dealtα dealtβ
-next t d random shares₀ at i shares j from h turn e =
-    joined-next (size t) 2 (key t d random i) shares₀ at shares
-    (set (set shares (at + 2 * j) (getD random from 0)) (at + 2 * j + 1) (getD random (from + 1) 0)) j (at + 2 * j) (λ k p. refl) h turn (omega arith)
-    (ap (λ (p : ℕ). set (set shares (at + 2 * j) (getD random from 0)) p (getD random (from + 1) 0)) (add-one (at + 2 * j))
-    ∙ ap (λ (f : ℕ). set (set shares (at + 2 * j) (getD random f 0)) (suc (at + 2 * j)) (getD random (f + 1) 0)) e)
+module _ (s : Shape) (random shares₀ : List ℕ) (i at : ℕ) (shares : List ℕ) (j : ℕ) (turn : Turn s random shares₀ i at shares j) where
+  next : (from : ℕ) → KeyAt s i j from → j < s .n
+      → Turn s random shares₀ i at (set (set shares (at + 2 * j) (getD random from 0)) (at + 2 * j + 1) (getD random (from + 1) 0)) (j + 1)
+  next from from-there h =
+      let place : ℕ = at + 2 * j in
+      let α : ℕ = getD random from 0 in
+      let β : ℕ = getD random (from + 1) 0 in
+      joined-next (s .n) 2 (key s random i) shares₀ at shares (set (set shares place α) (place + 1) β) j place (λ k p. refl) h turn (omega arith)
+      (ap (λ (p : ℕ). set (set shares place α) p β) (add-one place)
+      ∙ ap₂ (λ (a b : ℕ). set (set shares place a) (suc place) b) (α-there s i j from random from-there) (β-there s i j from random from-there))
+
+  last : (place count : ℕ) → Station s → At s i place count at → s .n ≤ j → shares ≡ stored s i place (keysOf (s .t) (s .d) random i) shares₀
+  unfolding keysOf
+  last place count st there h =
+      stored-at s i place count at (keysOf (s .t) (s .d) random i) shares₀ shares there
+      (joined-last (s .n) 2 (key s random i) shares₀ at shares j h turn
+      ∙ ap (λ (n : ℕ). sets shares₀ at (concat (tab n (key s random i)))) (st .members))
 
 abbrev Inv-loop : tie.InvT-loop
-Inv-loop t d random shares₀ at i n j₀ shares j = Turn t d random shares₀ at i shares j
+Inv-loop s random shares₀ i at n j₀ shares j = Turn s random shares₀ i at shares j
 
 abbrev μ-loop : tie.MeasureT-loop
-μ-loop t d random shares₀ at i n j₀ shares j = n - j
-
-mul-n : tie.Need-mul-n Inv-loop μ-loop
-unfolding size
-mul-n c = omega arith
-
-add-n : tie.Need-add-n Inv-loop μ-loop
-unfolding size
-add-n c = omega arith
-
-loop-holds : tie.Need-loop-holds Inv-loop μ-loop
-unfolding size
-loop-holds c = joined-first _ _ _ _ _
-
-key-place-requires : tie.Need-key-place-requires Inv-loop μ-loop
-unfolding size
-key-place-requires c κs = (c .before .before .before .before .pre .0, c .before .before .before .before .pre .1, c .before .before .before .before .pre .2, c .loop-test .taken)
-
-mul-place : tie.Need-mul-place Inv-loop μ-loop
-unfolding size
-mul-place c = omega arith
-
-add-place : tie.Need-add-place Inv-loop μ-loop
-unfolding size
-add-place c = omega (arith, joined-length _ _ _ _ _ _ _ (c .before .before .loop .inv), c .before .before .before .before .before .pre .4)
-
-mul-shares : tie.Need-mul-shares Inv-loop μ-loop
-unfolding size
-mul-shares c = omega (arith, key-inside _ _ _ _ _ _ (c .before .before .before .before .before .pre .3) (c .before .before .before .before .before .pre .2) (c .before .loop-test .taken) (c .key-place .ensures))
-
-shared-slice-read-shares : tie.Need-shared-slice-read-shares Inv-loop μ-loop
-unfolding size
-shared-slice-read-shares c = omega (arith, key-inside _ _ _ _ _ _ (c .before .before .before .before .before .before .pre .3) (c .before .before .before .before .before .before .pre .2) (c .before .before .loop-test .taken) (c .before .key-place .ensures))
-
-mul-shares-2 : tie.Need-mul-shares-2 Inv-loop μ-loop
-unfolding size
-mul-shares-2 c = omega (arith, joined-length _ _ _ _ _ _ _ (c .before .before .before .loop .inv), c .before .before .before .before .before .before .pre .4)
-
-slice-write-shares : tie.Need-slice-write-shares Inv-loop μ-loop
-unfolding size
-slice-write-shares c = omega (arith, joined-length _ _ _ _ _ _ _ (c .before .before .before .loop .inv), c .before .before .before .before .before .before .pre .4)
-
-add-shares : tie.Need-add-shares Inv-loop μ-loop
-unfolding size
-add-shares c = omega (arith, key-inside _ _ _ _ _ _ (c .before .before .before .before .before .before .pre .3) (c .before .before .before .before .before .before .pre .2) (c .before .before .loop-test .taken) (c .before .key-place .ensures))
-
-mul-shares-3 : tie.Need-mul-shares-3 Inv-loop μ-loop
-unfolding size
-mul-shares-3 c = omega (arith, key-inside _ _ _ _ _ _ (c .before .before .before .before .before .before .pre .3) (c .before .before .before .before .before .before .pre .2) (c .before .before .loop-test .taken) (c .before .key-place .ensures))
-
-shared-slice-read-shares-2 : tie.Need-shared-slice-read-shares-2 Inv-loop μ-loop
-unfolding size
-shared-slice-read-shares-2 c = omega (arith, key-inside _ _ _ _ _ _ (c .before .before .before .before .before .before .before .pre .3) (c .before .before .before .before .before .before .before .pre .2) (c .before .before .before .loop-test .taken) (c .before .before .key-place .ensures))
-
-add-shares-2 : tie.Need-add-shares-2 Inv-loop μ-loop
-unfolding size
-add-shares-2 c = omega (arith, joined-length _ _ _ _ _ _ _ (c .before .before .before .before .loop .inv), c .before .before .before .before .before .before .before .pre .4)
-
-mul-shares-4 : tie.Need-mul-shares-4 Inv-loop μ-loop
-unfolding size
-mul-shares-4 c = omega (arith, joined-length _ _ _ _ _ _ _ (c .before .before .before .before .loop .inv), c .before .before .before .before .before .before .before .pre .4)
-
-slice-write-shares-2 : tie.Need-slice-write-shares-2 Inv-loop μ-loop
-unfolding size
-slice-write-shares-2 c = simp length-set (omega (arith, joined-length _ _ _ _ _ _ _ (c .before .before .before .before .loop .inv), c .before .before .before .before .before .before .before .pre .4))
-
-add-j : tie.Need-add-j Inv-loop μ-loop
-unfolding size
-add-j c = omega arith
-
-loop-less : tie.Need-loop-less Inv-loop μ-loop
-unfolding size
-loop-less c = omega arith
-
-loop-again : tie.Need-loop-again Inv-loop μ-loop
-unfolding size
-loop-again c = next _ _ _ _ _ _ _ _ _ (c .before .before .before .loop-test .taken) (c .before .before .before .before .loop .inv) (c .before .before .key-place .ensures)
-
-same-length : tie.Need-same-length Inv-loop μ-loop
-unfolding size
-same-length c = joined-length _ _ _ _ _ _ _ (c .before .loop .inv)
-
-returns : tie.Need-returns Inv-loop μ-loop
-unfolding size keysOf
-returns c = joined-last _ _ _ _ _ _ _ (c .loop-test .left) (c .before .loop .inv)
+μ-loop s random shares₀ i at n j₀ shares j = n - j
 
 pub fill-keys-spec : {M : Type 1} → statement M
 fill-keys-spec =
@@ -126,24 +55,26 @@ fill-keys-spec =
     (tie.spec
     Inv-loop
     μ-loop
-    mul-n
-    add-n
-    loop-holds
-    key-place-requires
-    mul-place
-    add-place
-    mul-shares
-    shared-slice-read-shares
-    mul-shares-2
-    slice-write-shares
-    add-shares
-    mul-shares-3
-    shared-slice-read-shares-2
-    add-shares-2
-    mul-shares-4
-    slice-write-shares-2
-    add-j
-    loop-less
-    loop-again
-    same-length
-    returns)
+    (λ c κs. search needs)
+    (λ c. joined-first _ _ _ _ _)
+    -- key_place(s, i, j) and at + 2 * j
+    (λ c κs. search needs)
+    (λ c. omega arith)
+    (λ c. omega arith)
+    -- shares[place] = random[key];
+    (λ c. omega arith)
+    (λ c. omega arith)
+    (λ c. omega arith)
+    (λ c. omega arith)
+    -- shares[place + 1] = random[key + 1];
+    (λ c. omega arith)
+    (λ c. omega arith)
+    (λ c. omega arith)
+    (λ c. omega arith)
+    (λ c. omega arith)
+    (λ c. simp length-set (omega arith))
+    (λ c. omega arith)
+    (λ c. omega arith)
+    (λ c. search next)
+    (λ c. search needs)
+    (λ c. search last))

@@ -1,78 +1,57 @@
--- `dealing::fill_shares` meets its contract. The loop's invariant: the first i shares stand in their places.
+-- `dealing::fill_shares`: before turn i the first i shares stand in their places, and n of them are the whole buffer.
 -- Assumes nothing.
-use mathlib.Core.Path.{_≡_, sym, _∙_}
+use mathlib.Core.Path.{_≡_, sym, ap, _∙_}
 use mathlib.Core.List.{List}
 use Prim.Native.Nat.{ℕ, _+_, _-_, _*_, _≤_, _<_}
-use native.Mathlib.Nat.{zero-add}
 use native.Mathlib.Omega.{arith}
 use lib.ListN.{length}
-use lib.Seq.{sets}
-use Rattle.lists.proofs.Stores.{sets-whole, Joined, joined-first, joined-length, joined-next, joined-last}
-use Rattle.members.specs.Members.{size, ownPoints}
+use borrow.Author.Needs.{needs}
+use Rattle.lists.specs.Tabulate.{tab, concat}
+use Rattle.lists.proofs.Blocks.{length-concat}
+use Rattle.lists.proofs.Stores.{sets-whole, Joined, joined-first, joined-next, joined-last}
 use Rattle.shares.specs.Layout.{width}
+use Rattle.shares.specs.Internal.Shape.{Room, stored}
+use Rattle.shares.specs.declared.Shape.{Shape}
+use Rattle.shares.proofs.Storing.{room-kept}
 use Rattle.dealing.specs.Dealing.{dealtShare, dealtShares}
-use Rattle.dealing.proofs.Laws.{length-share, shares-length}
+use Rattle.dealing.specs.Internal.Steps.{Supplied}
+use Rattle.dealing.proofs.Laws.{length-share}
 use Rattle.dealing.proofs.fill_shares.Statement.{statement}
 use Rattle.dealing.proofs.fill_shares.Tie as tie
 
-abbrev Turn : ℕ → List ℕ → List ℕ → List ℕ → List ℕ → ℕ → Type 0
-Turn t secret random shares₀ shares i =
-    Joined (size t) (width t (length secret)) (dealtShare (ownPoints t) t secret random) shares₀ 0 shares i
+record Turn (s : Shape) (xs secret random shares₀ shares : List ℕ) (i : ℕ) : Type 0 where
+  room : Room s shares
+  joined : Joined (s .n) (s .width) (dealtShare xs (s .t) secret random) shares₀ 0 shares i
 
-next : (t : ℕ) (secret random shares₀ shares after : List ℕ) (i : ℕ) → i < size t → Turn t secret random shares₀ shares i
-    → after ≡ sets shares (i * width t (length secret)) (dealtShare (ownPoints t) t secret random i) → Turn t secret random shares₀ after (i + 1)
-next t secret random shares₀ shares after i h turn e =
-    joined-next (size t) (width t (length secret)) (dealtShare (ownPoints t) t secret random) shares₀ 0 shares after i (i * width t (length secret))
-    (λ j p. length-share (ownPoints t) t secret random j) h turn (sym (zero-add (i * width t (length secret)))) e
+first : (s : Shape) (xs secret random shares : List ℕ) → Room s shares → Turn s xs secret random shares shares 0
+first s xs secret random shares room = record { room = room; joined = joined-first _ _ _ _ _ }
 
-last : (t : ℕ) (secret random shares₀ shares : List ℕ) (i : ℕ) → size t ≤ i → length shares₀ ≡ size t * width t (length secret) → Turn t secret random shares₀ shares i
-    → shares ≡ dealtShares (ownPoints t) t secret random
-unfolding dealtShares
-last t secret random shares₀ shares i h e turn =
-    joined-last (size t) (width t (length secret)) (dealtShare (ownPoints t) t secret random) shares₀ 0 shares i h turn
-    ∙ sets-whole shares₀ (dealtShares (ownPoints t) t secret random) (shares-length (ownPoints t) t secret random ∙ sym e)
+module _ (s : Shape) (xs secret random shares₀ shares : List ℕ) (i : ℕ) (given : Supplied s secret random) (turn : Turn s xs secret random shares₀ shares i) where
+  long : (j : ℕ) → length (dealtShare xs (s .t) secret random j) ≡ s .width
+  long j = length-share xs (s .t) secret random j ∙ sym (turn .room .station .share ∙ ap (width (s .t)) (sym (given .secret-long)))
+
+  next : (after : List ℕ) → i < s .n → after ≡ stored s i 0 (dealtShare xs (s .t) secret random i) shares → Turn s xs secret random shares₀ after (i + 1)
+  next after h e =
+      record {
+        room = room-kept s shares (dealtShare xs (s .t) secret random i) after (i * s .width + 0) (turn .room) e;
+        joined =
+            joined-next (s .n) (s .width) (dealtShare xs (s .t) secret random) shares₀ 0 shares after i (i * s .width + 0) (λ j p. long j) h (turn .joined)
+            (omega arith) e;
+      }
+
+  last : s .n ≤ i → Room s shares₀ → shares ≡ dealtShares xs (s .t) secret random
+  unfolding dealtShares
+  last h room =
+      let share : ℕ → List ℕ = dealtShare xs (s .t) secret random in
+      joined-last (s .n) (s .width) share shares₀ 0 shares i h (turn .joined)
+      ∙ sets-whole shares₀ (concat (tab (s .n) share)) (length-concat (s .n) (s .width) share (λ j p. long j) ∙ sym (room .long))
+      ∙ ap (λ (n : ℕ). concat (tab n share)) (room .station .members)
 
 abbrev Inv-loop : tie.InvT-loop
-Inv-loop t secret random shares₀ n i₀ shares i = Turn t secret random shares₀ shares i
+Inv-loop s points secret random shares₀ n i₀ shares i = Turn s points secret random shares₀ shares i
 
 abbrev μ-loop : tie.MeasureT-loop
-μ-loop t secret random shares₀ n i₀ shares i = n - i
-
-mul-n : tie.Need-mul-n Inv-loop μ-loop
-unfolding size
-mul-n c = omega arith
-
-add-n : tie.Need-add-n Inv-loop μ-loop
-unfolding size
-add-n c = omega arith
-
-loop-holds : tie.Need-loop-holds Inv-loop μ-loop
-unfolding size
-loop-holds c = joined-first _ _ _ _ _
-
-fill-share-requires : tie.Need-fill-share-requires Inv-loop μ-loop
-unfolding size
-fill-share-requires c κs = (c .before .before .before .before .before .before .pre .0, c .before .before .before .before .before .before .pre .1, c .before .loop-test .taken, c .before .before .before .before .before .before .pre .2, joined-length _ _ _ _ _ _ _ (c .before .before .loop .inv) ∙ c .before .before .before .before .before .before .pre .3)
-
-add-i : tie.Need-add-i Inv-loop μ-loop
-unfolding size
-add-i c = omega arith
-
-loop-less : tie.Need-loop-less Inv-loop μ-loop
-unfolding size
-loop-less c = omega arith
-
-loop-again : tie.Need-loop-again Inv-loop μ-loop
-unfolding size
-loop-again c = next _ _ _ _ _ _ _ (c .before .before .before .before .loop-test .taken) (c .before .before .before .before .before .loop .inv) (c .before .before .fill-share .ensures)
-
-same-length : tie.Need-same-length Inv-loop μ-loop
-unfolding size
-same-length c = joined-length _ _ _ _ _ _ _ (c .before .loop .inv)
-
-returns : tie.Need-returns Inv-loop μ-loop
-unfolding size
-returns c = last _ _ _ _ _ _ (c .loop-test .left) (c .before .before .before .before .before .pre .3) (c .before .loop .inv)
+μ-loop s points secret random shares₀ n i₀ shares i = n - i
 
 pub fill-shares-spec : {M : Type 1} → statement M
 fill-shares-spec =
@@ -80,12 +59,10 @@ fill-shares-spec =
     (tie.spec
     Inv-loop
     μ-loop
-    mul-n
-    add-n
-    loop-holds
-    fill-share-requires
-    add-i
-    loop-less
-    loop-again
-    same-length
-    returns)
+    (λ c. search first)
+    (λ c κs. search needs)
+    (λ c. omega arith)
+    (λ c. omega arith)
+    (λ c. search next)
+    (λ c. search needs)
+    (λ c. search last))

@@ -1,93 +1,54 @@
--- `dealing::fill_tags` meets its contract. The loop's invariant: the first j tags stand in their places.
+-- `dealing::fill_tags`: before turn j the first j tags stand in their places; the share words stand before them and stay.
 -- Assumes nothing.
 use mathlib.Core.Path.{_≡_, refl, ap, _∙_}
 use mathlib.Core.List.{List}
-use Prim.Native.Nat.{ℕ, _+_, _-_, _<_}
-use native.Mathlib.Nat.{le-refl}
+use Prim.Native.Nat.{ℕ, _+_, _-_, _≤_, _<_}
 use native.Mathlib.Omega.{arith}
 use lib.ListN.{take, drop, set}
+use lib.Seq.{sets}
+use borrow.Author.Needs.{needs}
 use Rattle.lists.specs.Tabulate.{tab}
-use Rattle.lists.proofs.Stores.{part-kept, Filled, filled-first, filled-length, filled-next, filled-last}
-use Rattle.mac.specs.Tag.{tag}
-use Rattle.members.specs.Members.{size}
-use Rattle.dealing.specs.Dealing.{dealtα, dealtβ}
-use Rattle.dealing.specs.Internal.Steps.{tagsOf}
+use Rattle.lists.proofs.Stores.{Filled, filled-first, filled-next, filled-last}
+use Rattle.shares.specs.Layout.{wordPlace, tagPlace, shareWords}
+use Rattle.shares.specs.Internal.Shape.{Room, At, stored}
+use Rattle.shares.specs.declared.Shape.{Shape}
+use Rattle.shares.proofs.Reading.{lent, words-at}
+use Rattle.shares.proofs.Storing.{room-kept, stored-at, words-kept}
+use Rattle.dealing.specs.Internal.Steps.{tagOf, tagsOf}
 use Rattle.dealing.proofs.fill_tags.Statement.{statement}
 use Rattle.dealing.proofs.fill_tags.Tie as tie
 
-abbrev tagAt : ℕ → ℕ → List ℕ → ℕ → List ℕ → ℕ → ℕ
-tagAt t d random i words j = tag (dealtα t d random j i) (dealtβ t d random j i) words
+abbrev Turn : Shape → List ℕ → List ℕ → ℕ → ℕ → List ℕ → ℕ → Type 0
+Turn s random shares₀ i at shares j = Filled (s .n) (tagOf (s .t) (s .d) random i (shareWords (s .t) (s .d) shares₀ i)) shares₀ at shares j
 
-abbrev Turn : ℕ → ℕ → List ℕ → List ℕ → ℕ → ℕ → List ℕ → ℕ → Type 0
-Turn t d random shares₀ at i shares j = Filled (size t) (tagAt t d random i (take d (drop at shares₀))) shares₀ (at + d) shares j
+module _ (s : Shape) (random shares₀ : List ℕ) (i at : ℕ) (shares : List ℕ) (j : ℕ) (room : Room s shares₀) (h : i < s .n)
+    (there : At s i (tagPlace (s .d) 0) (s .n) at) (turn : Turn s random shares₀ i at shares j) where
+  -- the share words are still there
+  standing : (words : ℕ) → At s i (wordPlace 0) (s .d) words → take (words + s .d - words) (drop words shares) ≡ shareWords (s .t) (s .d) shares₀ i
+  standing words words-there =
+      let done : List ℕ = tab j (tagOf (s .t) (s .d) random i (shareWords (s .t) (s .d) shares₀ i)) in
+      lent words (s .d) shares
+      ∙ words-at s shares (room-kept s shares₀ done shares at room (turn .so-far)) i words words-there
+      ∙ words-kept s shares₀ shares i room h done (stored-at s i (tagPlace (s .d) 0) (s .n) at done shares₀ shares there (turn .so-far))
 
--- the share words stand before the tags and stay
-next : (t d : ℕ) (random shares₀ : List ℕ) (at i : ℕ) (shares : List ℕ) (j r : ℕ) → j < size t → Turn t d random shares₀ at i shares j
-    → r ≡ tagAt t d random i (take d (drop at shares)) j → Turn t d random shares₀ at i (set shares (at + d + j) r) (j + 1)
-next t d random shares₀ at i shares j r h turn e =
-    filled-next (size t) (tagAt t d random i (take d (drop at shares₀))) shares₀ (at + d) shares j (at + d + j) r h turn refl
-    (e
-    ∙ ap (λ (words : List ℕ). tagAt t d random i words j)
-    (ap (λ (s : List ℕ). take d (drop at s)) (turn .so-far)
-    ∙ part-kept shares₀ (tab j (tagAt t d random i (take d (drop at shares₀)))) at d (at + d) (le-refl (at + d))))
+  next : (words r : ℕ) → At s i (wordPlace 0) (s .d) words → j < s .n
+      → r ≡ tagOf (s .t) (s .d) random i (take (words + s .d - words) (drop words shares)) j → Turn s random shares₀ i at (set shares (at + j) r) (j + 1)
+  next words r words-there q e =
+      filled-next (s .n) _ shares₀ at shares j (at + j) r q turn refl
+      (e ∙ ap (λ (ws : List ℕ). tagOf (s .t) (s .d) random i ws j) (standing words words-there))
+
+  last : s .n ≤ j → shares ≡ stored s i (tagPlace (s .d) 0) (tagsOf (s .t) (s .d) random i (shareWords (s .t) (s .d) shares₀ i)) shares₀
+  unfolding tagsOf
+  last q =
+      stored-at s i (tagPlace (s .d) 0) (s .n) at (tagsOf (s .t) (s .d) random i (shareWords (s .t) (s .d) shares₀ i)) shares₀ shares there
+      (filled-last (s .n) _ shares₀ at shares j q turn
+      ∙ ap (λ (n : ℕ). sets shares₀ at (tab n (tagOf (s .t) (s .d) random i (shareWords (s .t) (s .d) shares₀ i)))) (room .station .members))
 
 abbrev Inv-loop : tie.InvT-loop
-Inv-loop t d random shares₀ at i n j₀ shares j = Turn t d random shares₀ at i shares j
+Inv-loop s random shares₀ i words end at n j₀ shares j = Turn s random shares₀ i at shares j
 
 abbrev μ-loop : tie.MeasureT-loop
-μ-loop t d random shares₀ at i n j₀ shares j = n - j
-
-mul-n : tie.Need-mul-n Inv-loop μ-loop
-unfolding size
-mul-n c = omega arith
-
-add-n : tie.Need-add-n Inv-loop μ-loop
-unfolding size
-add-n c = omega arith
-
-loop-holds : tie.Need-loop-holds Inv-loop μ-loop
-unfolding size
-loop-holds c = filled-first _ _ _ _
-
-tag-of-requires : tie.Need-tag-of-requires Inv-loop μ-loop
-unfolding size
-tag-of-requires c κs = (c .before .before .before .before .before .pre .0, c .before .before .before .before .before .pre .1, c .before .before .before .before .before .pre .2, c .before .loop-test .taken, c .before .before .before .before .before .pre .3, omega (arith, filled-length _ _ _ _ _ _ (c .before .before .loop .inv), c .before .before .before .before .before .pre .4))
-
-add-shares : tie.Need-add-shares Inv-loop μ-loop
-unfolding size
-add-shares c = omega (arith, filled-length _ _ _ _ _ _ (c .before .before .before .loop .inv), c .before .before .before .before .before .before .pre .4)
-
-add-shares-2 : tie.Need-add-shares-2 Inv-loop μ-loop
-unfolding size
-add-shares-2 c = omega (arith, filled-length _ _ _ _ _ _ (c .before .before .before .loop .inv), c .before .before .before .before .before .before .pre .4)
-
-mul-shares : tie.Need-mul-shares Inv-loop μ-loop
-unfolding size
-mul-shares c = omega (arith, filled-length _ _ _ _ _ _ (c .before .before .before .loop .inv), c .before .before .before .before .before .before .pre .4)
-
-slice-write-shares : tie.Need-slice-write-shares Inv-loop μ-loop
-unfolding size
-slice-write-shares c = omega (arith, filled-length _ _ _ _ _ _ (c .before .before .before .loop .inv), c .before .before .before .before .before .before .pre .4)
-
-add-j : tie.Need-add-j Inv-loop μ-loop
-unfolding size
-add-j c = omega (arith, filled-length _ _ _ _ _ _ (c .before .before .before .loop .inv), c .before .before .before .before .before .before .pre .4)
-
-loop-less : tie.Need-loop-less Inv-loop μ-loop
-unfolding size
-loop-less c = omega arith
-
-loop-again : tie.Need-loop-again Inv-loop μ-loop
-unfolding size
-loop-again c = next _ _ _ _ _ _ _ _ _ (c .before .before .loop-test .taken) (c .before .before .before .loop .inv) (c .tag-of .ensures)
-
-same-length : tie.Need-same-length Inv-loop μ-loop
-unfolding size
-same-length c = filled-length _ _ _ _ _ _ (c .before .loop .inv)
-
-returns : tie.Need-returns Inv-loop μ-loop
-unfolding size tagsOf
-returns c = filled-last _ _ _ _ _ _ (c .loop-test .left) (c .before .loop .inv)
+μ-loop s random shares₀ i words end at n j₀ shares j = n - j
 
 pub fill-tags-spec : {M : Type 1} → statement M
 fill-tags-spec =
@@ -95,16 +56,23 @@ fill-tags-spec =
     (tie.spec
     Inv-loop
     μ-loop
-    mul-n
-    add-n
-    loop-holds
-    tag-of-requires
-    add-shares
-    add-shares-2
-    mul-shares
-    slice-write-shares
-    add-j
-    loop-less
-    loop-again
-    same-length
-    returns)
+    -- the places
+    (λ c κs. search needs)
+    (λ c. omega arith)
+    (λ c κs. search needs)
+    (λ c. filled-first _ _ _ _)
+    -- tag_of(s, random, &shares[words..end], i, j)
+    (λ c. omega arith)
+    (λ c. omega arith)
+    (λ c. omega arith)
+    (λ c. omega arith)
+    (λ c κs. search needs)
+    -- shares[at + j] = ..
+    (λ c. omega arith)
+    (λ c. omega arith)
+    (λ c. omega arith)
+    (λ c. omega arith)
+    (λ c. omega arith)
+    (λ c. search next)
+    (λ c. search needs)
+    (λ c. search last))

@@ -1,44 +1,22 @@
--- `dealing::key_place` meets its contract.
+-- `dealing::key_place`: the code's sum is the definition's, n being the size, and all of it is small for t and d in range.
 -- Assumes nothing.
+use Prim.Native.Nat.{_*_, _≤_}
+use native.Mathlib.Nat.{le-of-lt}
 use native.Mathlib.Omega.{arith}
-use Rattle.members.specs.Members.{size}
-use Rattle.dealing.proofs.Places.{coefficients-le, row-le}
+use Rattle.dealing.proofs.Places.{coefficients-le, row-le, key-at}
 use Rattle.dealing.proofs.key_place.Statement.{statement}
 use Rattle.dealing.proofs.key_place.Tie as tie
 
-mul-n : tie.Need-mul-n
-unfolding size
-mul-n c = omega arith
-
-add-n : tie.Need-add-n
-unfolding size
-add-n c = omega arith
-
-mul-result : tie.Need-mul-result
-unfolding size
-mul-result c = omega (arith, coefficients-le _ _ (c .pre .0) (c .pre .1))
-
-mul-result-2 : tie.Need-mul-result-2
-unfolding size
-mul-result-2 c = omega (arith, row-le _ _ (c .pre .0) (c .pre .2))
-
-add-result : tie.Need-add-result
-unfolding size
-add-result c = omega (arith, row-le _ _ (c .pre .0) (c .pre .2))
-
-mul-result-3 : tie.Need-mul-result-3
-unfolding size
-mul-result-3 c = omega (arith, row-le _ _ (c .pre .0) (c .pre .2))
-
-add-result-2 : tie.Need-add-result-2
-unfolding size
-add-result-2 c = omega (arith, row-le _ _ (c .pre .0) (c .pre .2), coefficients-le _ _ (c .pre .0) (c .pre .1))
-
-returns : tie.Need-returns
-unfolding size
-returns c = omega arith
+small : (c : tie.Start) → (c .args .s .t * c .args .s .d ≤ 960) × (c .args .i * c .args .s .n ≤ 961)
+small c = (search coefficients-le, search (row-le, le-of-lt))
 
 pub key-place-spec : {M : Type 1} → statement M
 key-place-spec =
     tie.close
-    (tie.spec mul-n add-n mul-result mul-result-2 add-result mul-result-3 add-result-2 returns)
+    (tie.spec
+    (λ c. let entry : tie.Start = search in omega (arith, small entry))
+    (λ c. let entry : tie.Start = search in omega (arith, small entry))
+    (λ c. let entry : tie.Start = search in omega (arith, small entry))
+    (λ c. let entry : tie.Start = search in omega (arith, small entry))
+    (λ c. let entry : tie.Start = search in omega (arith, small entry))
+    (λ c. search key-at))

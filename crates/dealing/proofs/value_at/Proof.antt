@@ -1,4 +1,4 @@
--- `dealing::value_at` meets its contract: one more Horner step.
+-- `dealing::value_at`: the constant and x times the value of the others is one more step of Horner's rule.
 -- Assumes nothing.
 use mathlib.Core.Path.{_≡_, sym, ap, _∙_}
 use mathlib.Core.List.{List, _∷_}
@@ -12,14 +12,5 @@ use Rattle.dealing.proofs.value_at.Tie as tie
 step : (a : ℕ) (others : List ℕ) (x e r : ℕ) → e ≡ value others x → r ≡ sum a (product x e) → r ≡ value (a ∷ others) x
 step a others x e r ee er = er ∙ ap (λ (v : ℕ). sum a (product x v)) ee ∙ sym (value-cons a others x)
 
-evaluate-requires : tie.Need-evaluate-requires
-evaluate-requires c κs = tt
-
-add-product-requires : tie.Need-add-product-requires
-add-product-requires c κs = tt
-
-returns : tie.Need-returns
-returns c = step _ _ _ _ _ (c .before .evaluate .ensures) (c .add-product .ensures)
-
 pub value-at-spec : {M : Type 1} → statement M
-value-at-spec = tie.close (tie.spec evaluate-requires add-product-requires returns)
+value-at-spec = tie.close (tie.spec (λ c κs. tt) (λ c κs. tt) (λ c. search step))

@@ -1,4 +1,4 @@
--- `field::are_field_words` meets its contract. The loop's invariant: the test of what is left is the test of the whole.
+-- `field::are_field_words`: the test of what is left is the test of the whole, and the first word that is none decides.
 -- Assumes nothing.
 use mathlib.Core.Path.{_≡_, refl, sym, ap, _∙_}
 use mathlib.Core.Bool.{Bool, true, false, _&&_}
@@ -43,45 +43,18 @@ Inv-loop words i₀ i = Turn words i
 abbrev μ-loop : tie.MeasureT-loop
 μ-loop words i₀ i = length words - i
 
-loop-holds : tie.Need-loop-holds Inv-loop μ-loop
-loop-holds c = first _
-
-mul-is-field-word : tie.Need-mul-is-field-word Inv-loop μ-loop
-mul-is-field-word c = omega arith
-
-shared-slice-read-is-field-word : tie.Need-shared-slice-read-is-field-word Inv-loop μ-loop
-shared-slice-read-is-field-word c = omega arith
-
-is-field-word-requires : tie.Need-is-field-word-requires Inv-loop μ-loop
-is-field-word-requires c κs = tt
-
-returns : tie.Need-returns Inv-loop μ-loop
-returns c = found _ _ (c .before .before .before .loop-test .taken) (fails _ _ (c .before .is-field-word .ensures) (c .if1 .taken)) (c .before .before .before .before .loop .inv)
-
-add-i : tie.Need-add-i Inv-loop μ-loop
-add-i c = omega arith
-
-loop-less : tie.Need-loop-less Inv-loop μ-loop
-loop-less c = omega arith
-
-loop-again : tie.Need-loop-again Inv-loop μ-loop
-loop-again c = next _ _ (c .before .before .before .loop-test .taken) (passes _ _ (c .before .is-field-word .ensures) (c .if1 .left)) (c .before .before .before .before .loop .inv)
-
-returns-2 : tie.Need-returns-2 Inv-loop μ-loop
-returns-2 c = last _ _ (c .loop-test .left) (c .before .loop .inv)
-
 pub are-field-words-spec : {M : Type 1} → statement M
 are-field-words-spec =
     tie.close
     (tie.spec
     Inv-loop
     μ-loop
-    loop-holds
-    mul-is-field-word
-    shared-slice-read-is-field-word
-    is-field-word-requires
-    returns
-    add-i
-    loop-less
-    loop-again
-    returns-2)
+    (λ c. first _)
+    (λ c. omega arith)
+    (λ c. omega arith)
+    (λ c κs. tt)
+    (λ c. search (fails, found))
+    (λ c. omega arith)
+    (λ c. omega arith)
+    (λ c. search (passes, next))
+    (λ c. search last))

@@ -1,7 +1,7 @@
--- `field::inverse` meets its contract. The loop's invariant: the result so far, times what the power of `square` still adds, is the inverse.
+-- `field::inverse`: the result so far, times the power of `square` that is still to come, is the inverse; each turn takes one binary digit of p − 2.
 -- Assumes nothing.
-use mathlib.Core.Path.{_≡_, refl, sym, ap, _∙_}
-use Prim.Native.Nat.{ℕ, zero, suc, _+_, _-_, _*_, _/_, _%_, _^_, _≤_, _<_}
+use mathlib.Core.Path.{_≡_, sym}
+use Prim.Native.Nat.{ℕ, zero, suc, _-_, _*_, _/_, _%_, _^_, _≤_, _<_}
 use native.Mathlib.Nat.{one-mul, mul-one, mul-assoc, not-suc-le-zero}
 use native.Mathlib.Numerals.{sub-one}
 use native.Mathlib.Omega.{arith}
@@ -53,43 +53,17 @@ Inv-loop a result₀ square₀ k₀ left₀ result square k left = Turn a result
 abbrev μ-loop : tie.MeasureT-loop
 μ-loop a result₀ square₀ k₀ left₀ result square k left = left
 
-loop-holds : tie.Need-loop-holds Inv-loop μ-loop
-loop-holds c = first (c .args .a)
-
-digit-power-requires : tie.Need-digit-power-requires Inv-loop μ-loop
-digit-power-requires c κs = tt
-
-multiply-requires : tie.Need-multiply-requires Inv-loop μ-loop
-multiply-requires c κs = tt
-
-multiply-requires-2 : tie.Need-multiply-requires-2 Inv-loop μ-loop
-multiply-requires-2 c κs = tt
-
-sub-left : tie.Need-sub-left Inv-loop μ-loop
-sub-left c = omega arith
-
-loop-less : tie.Need-loop-less Inv-loop μ-loop
-loop-less c = omega arith
-
-loop-again : tie.Need-loop-again Inv-loop μ-loop
-loop-again c =
-    again _ _ _ _ _ _ _ _ (c .before .before .before .loop-test .taken) (c .before .before .before .before .loop .inv)
-    (c .before .before .digit-power .ensures) (c .before .multiply .ensures) (c .multiply2 .ensures)
-
-returns : tie.Need-returns Inv-loop μ-loop
-returns c = done _ _ _ _ _ (c .loop-test .left) (c .before .loop .inv)
-
 pub inverse-spec : {M : Type 1} → statement M
 inverse-spec =
     tie.close
     (tie.spec
     Inv-loop
     μ-loop
-    loop-holds
-    digit-power-requires
-    multiply-requires
-    multiply-requires-2
-    sub-left
-    loop-less
-    loop-again
-    returns)
+    (λ c. search first)
+    (λ c κs. tt)
+    (λ c κs. tt)
+    (λ c κs. tt)
+    (λ c. omega arith)
+    (λ c. omega arith)
+    (λ c. search again)
+    (λ c. search done))

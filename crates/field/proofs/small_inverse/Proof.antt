@@ -1,4 +1,4 @@
--- `field::small_inverse` meets its contract: the table's rule, computed once over all 30 entries.
+-- `field::small_inverse`: the table's rule, computed once over all 30 entries.
 -- Assumes nothing.
 use Rattle.lists.specs.Tabulate.{tab}
 use Rattle.field.specs.Field.{power, inverse, smallInverses}
@@ -7,18 +7,9 @@ use borrow.Author.Needs.{needs}
 use Rattle.field.proofs.small_inverse.Statement.{statement}
 use Rattle.field.proofs.small_inverse.Tie as tie
 
-sub-result : tie.Need-sub-result
-sub-result c = search needs
-
-mul-result : tie.Need-mul-result
-mul-result c = search needs
-
-array-read-result : tie.Need-array-read-result
-array-read-result c = search needs
-
 returns : tie.Need-returns
 unfolding smallInverses tab inverse power
-returns c = entry (c .args .k) (c .pre .0) (c .pre .1)
+returns c = search entry
 
 pub small-inverse-spec : {M : Type 1} → statement M
-small-inverse-spec = tie.close (tie.spec sub-result mul-result array-read-result returns)
+small-inverse-spec = tie.close (tie.spec (λ c. search needs) (λ c. search needs) (λ c. search needs) returns)

@@ -1,4 +1,4 @@
--- `field::subtract` meets its contract.
+-- `field::subtract`: b modulo p is below p, so nothing wraps, and the code's remainder is the definition's.
 -- Assumes nothing.
 use mathlib.Core.Path.{refl}
 use borrow.Author.Needs.{needs}
@@ -6,18 +6,6 @@ use Rattle.field.specs.Field.{difference}
 use Rattle.field.proofs.subtract.Statement.{statement}
 use Rattle.field.proofs.subtract.Tie as tie
 
-sub-result : tie.Need-sub-result
-sub-result c = search needs
-
-add-result : tie.Need-add-result
-add-result c = search needs
-
-cast-result : tie.Need-cast-result
-cast-result c = search needs
-
-returns : tie.Need-returns
-unfolding difference
-returns c = refl
-
 pub subtract-spec : {M : Type 1} → statement M
-subtract-spec = tie.close (tie.spec sub-result add-result cast-result returns)
+unfolding difference
+subtract-spec = tie.close (tie.spec (λ c. search needs) (λ c. search needs) (λ c. search needs) (λ c. refl))

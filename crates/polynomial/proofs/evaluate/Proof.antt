@@ -1,4 +1,4 @@
--- `polynomial::evaluate` meets its contract. The loop's invariant: the result is the value of the coefficients from place 4k on.
+-- `polynomial::evaluate`: the result is the value of the coefficients from place 4k on; a turn puts four more in front, by the powers of x up to the fourth.
 -- Assumes nothing.
 use mathlib.Core.Path.{_≡_, sym, ap, _∙_}
 use mathlib.Core.List.{List, _∷_}
@@ -64,120 +64,43 @@ Inv-loop coefficients x square cube fourth k₀ result₀ k result = Turn coeffi
 abbrev μ-loop : tie.MeasureT-loop
 μ-loop coefficients x square cube fourth k₀ result₀ k result = k
 
-multiply-requires : tie.Need-multiply-requires Inv-loop μ-loop
-multiply-requires c κs = tt
-
-multiply-requires-2 : tie.Need-multiply-requires-2 Inv-loop μ-loop
-multiply-requires-2 c κs = tt
-
-multiply-requires-3 : tie.Need-multiply-requires-3 Inv-loop μ-loop
-multiply-requires-3 c κs = tt
-
-mul-horner : tie.Need-mul-horner Inv-loop μ-loop
-mul-horner c = omega arith
-
-mul-horner-2 : tie.Need-mul-horner-2 Inv-loop μ-loop
-mul-horner-2 c = omega arith
-
-sub-horner : tie.Need-sub-horner Inv-loop μ-loop
-sub-horner c = omega arith
-
-part-horner-start : tie.Need-part-horner-start Inv-loop μ-loop
-part-horner-start c = omega arith
-
-part-horner-end : tie.Need-part-horner-end Inv-loop μ-loop
-part-horner-end c = omega arith
-
-horner-requires : tie.Need-horner-requires Inv-loop μ-loop
-horner-requires c κs = tt
-
-loop-holds : tie.Need-loop-holds Inv-loop μ-loop
-loop-holds c = first _ _ _ (c .horner .ensures)
-
-sub-k : tie.Need-sub-k Inv-loop μ-loop
-sub-k c = omega arith
-
-mul-i : tie.Need-mul-i Inv-loop μ-loop
-mul-i c = omega arith
-
-mul-add-four-products : tie.Need-mul-add-four-products Inv-loop μ-loop
-mul-add-four-products c = omega arith
-
-shared-slice-read-add-four-products : tie.Need-shared-slice-read-add-four-products Inv-loop μ-loop
-shared-slice-read-add-four-products c = omega arith
-
-add-add-four-products : tie.Need-add-add-four-products Inv-loop μ-loop
-add-add-four-products c = omega arith
-
-mul-add-four-products-2 : tie.Need-mul-add-four-products-2 Inv-loop μ-loop
-mul-add-four-products-2 c = omega arith
-
-shared-slice-read-add-four-products-2 :
-    tie.Need-shared-slice-read-add-four-products-2 Inv-loop μ-loop
-shared-slice-read-add-four-products-2 c = omega arith
-
-add-add-four-products-2 : tie.Need-add-add-four-products-2 Inv-loop μ-loop
-add-add-four-products-2 c = omega arith
-
-mul-add-four-products-3 : tie.Need-mul-add-four-products-3 Inv-loop μ-loop
-mul-add-four-products-3 c = omega arith
-
-shared-slice-read-add-four-products-3 :
-    tie.Need-shared-slice-read-add-four-products-3 Inv-loop μ-loop
-shared-slice-read-add-four-products-3 c = omega arith
-
-add-add-four-products-3 : tie.Need-add-add-four-products-3 Inv-loop μ-loop
-add-add-four-products-3 c = omega arith
-
-mul-add-four-products-4 : tie.Need-mul-add-four-products-4 Inv-loop μ-loop
-mul-add-four-products-4 c = omega arith
-
-shared-slice-read-add-four-products-4 :
-    tie.Need-shared-slice-read-add-four-products-4 Inv-loop μ-loop
-shared-slice-read-add-four-products-4 c = omega arith
-
-add-four-products-requires : tie.Need-add-four-products-requires Inv-loop μ-loop
-add-four-products-requires c κs = tt
-
-loop-less : tie.Need-loop-less Inv-loop μ-loop
-loop-less c = omega arith
-
-loop-again : tie.Need-loop-again Inv-loop μ-loop
-loop-again c = next _ _ _ _ _ (c .before .before .before .before .before .before .before .before .before .before .before .multiply .ensures) (c .before .before .before .before .before .before .before .before .before .before .multiply2 .ensures) (c .before .before .before .before .before .before .before .before .before .multiply3 .ensures) _ _ _ (c .before .before .before .before .before .loop-test .taken) (c .before .before .before .before .before .before .loop .inv) (c .add-four-products .ensures)
-
-returns : tie.Need-returns Inv-loop μ-loop
-returns c = last _ _ _ _ (c .loop-test .left) (c .before .loop .inv)
-
 pub evaluate-spec : {M : Type 1} → statement M
 evaluate-spec =
     tie.close
     (tie.spec
     Inv-loop
     μ-loop
-    multiply-requires
-    multiply-requires-2
-    multiply-requires-3
-    mul-horner
-    mul-horner-2
-    sub-horner
-    part-horner-start
-    part-horner-end
-    horner-requires
-    loop-holds
-    sub-k
-    mul-i
-    mul-add-four-products
-    shared-slice-read-add-four-products
-    add-add-four-products
-    mul-add-four-products-2
-    shared-slice-read-add-four-products-2
-    add-add-four-products-2
-    mul-add-four-products-3
-    shared-slice-read-add-four-products-3
-    add-add-four-products-3
-    mul-add-four-products-4
-    shared-slice-read-add-four-products-4
-    add-four-products-requires
-    loop-less
-    loop-again
-    returns)
+    -- the powers of x
+    (λ c κs. tt)
+    (λ c κs. tt)
+    (λ c κs. tt)
+    -- let mut result = horner(&coefficients[4 * k..], x);
+    (λ c. omega arith)
+    (λ c. omega arith)
+    (λ c. omega arith)
+    (λ c. omega arith)
+    (λ c. omega arith)
+    (λ c κs. tt)
+    (λ c. search first)
+    -- four coefficients
+    (λ c. omega arith)
+    (λ c. omega arith)
+    (λ c. omega arith)
+    (λ c. omega arith)
+    (λ c. omega arith)
+    (λ c. omega arith)
+    (λ c. omega arith)
+    (λ c. omega arith)
+    (λ c. omega arith)
+    (λ c. omega arith)
+    (λ c. omega arith)
+    (λ c. omega arith)
+    (λ c. omega arith)
+    (λ c κs. tt)
+    (λ c. omega arith)
+    (λ c.
+    let (s, q, f, at, in-loop) : tie.After-multiply Inv-loop μ-loop × tie.After-multiply2 Inv-loop μ-loop × tie.After-multiply3 Inv-loop μ-loop
+    × tie.At-loop Inv-loop μ-loop × tie.In-loop Inv-loop μ-loop = (search, search, search, search, search) in
+    next _ _ _ _ _ (s .multiply .ensures) (q .multiply2 .ensures) (f .multiply3 .ensures) _ _ _ (in-loop .loop-test .taken) (at .loop .inv)
+    (c .add-four-products .ensures))
+    (λ c. search last))

@@ -1,6 +1,6 @@
--- `polynomial::horner` meets its contract. The loop's invariant: the result is the value of the coefficients from i on.
+-- `polynomial::horner`: the result is the value of the coefficients from i on, and a turn puts one more in front.
 -- Assumes nothing.
-use mathlib.Core.Path.{_≡_, refl, sym, ap, _∙_}
+use mathlib.Core.Path.{_≡_, sym, ap, _∙_}
 use mathlib.Core.List.{List}
 use Prim.Native.Nat.{ℕ, zero, suc, _-_, _≤_, _<_}
 use native.Mathlib.Nat.{le-refl, not-suc-le-zero}
@@ -45,41 +45,17 @@ Inv-loop coefficients x result₀ i₀ result i = Turn coefficients x result i
 abbrev μ-loop : tie.MeasureT-loop
 μ-loop coefficients x result₀ i₀ result i = i
 
-loop-holds : tie.Need-loop-holds Inv-loop μ-loop
-loop-holds c = first _ _
-
-sub-i : tie.Need-sub-i Inv-loop μ-loop
-sub-i c = omega arith
-
-mul-add-product : tie.Need-mul-add-product Inv-loop μ-loop
-mul-add-product c = omega arith
-
-shared-slice-read-add-product : tie.Need-shared-slice-read-add-product Inv-loop μ-loop
-shared-slice-read-add-product c = omega arith
-
-add-product-requires : tie.Need-add-product-requires Inv-loop μ-loop
-add-product-requires c κs = tt
-
-loop-less : tie.Need-loop-less Inv-loop μ-loop
-loop-less c = omega arith
-
-loop-again : tie.Need-loop-again Inv-loop μ-loop
-loop-again c = next _ _ _ _ _ (c .before .before .loop-test .taken) (c .before .before .before .loop .inv) (c .add-product .ensures)
-
-returns : tie.Need-returns Inv-loop μ-loop
-returns c = last _ _ _ _ (c .loop-test .left) (c .before .loop .inv)
-
 pub horner-spec : {M : Type 1} → statement M
 horner-spec =
     tie.close
     (tie.spec
     Inv-loop
     μ-loop
-    loop-holds
-    sub-i
-    mul-add-product
-    shared-slice-read-add-product
-    add-product-requires
-    loop-less
-    loop-again
-    returns)
+    (λ c. first _ _)
+    (λ c. omega arith)
+    (λ c. omega arith)
+    (λ c. omega arith)
+    (λ c κs. tt)
+    (λ c. omega arith)
+    (λ c. search next)
+    (λ c. search last))

@@ -1,29 +1,26 @@
--- `polynomial::interpolate` meets its contract.
+-- `polynomial::interpolate`: divided differences and then their expansion are the definition's interpolation, for as many values as points.
 -- Assumes nothing.
 use mathlib.Core.Path.{_≡_, sym, ap, _∙_}
 use mathlib.Core.List.{List}
 use Prim.Native.Nat.{ℕ}
-use Rattle.polynomial.specs.Internal.Newton.{expanded}
+use lib.ListN.{length}
+use Rattle.polynomial.specs.Polynomial.{interpolated}
+use Rattle.polynomial.specs.Internal.Newton.{divided, expanded}
 use Rattle.polynomial.proofs.Newton.{interpolate-is, interpolated-no, interpolated-yes}
 use borrow.Author.Needs.{needs}
 use Rattle.polynomial.proofs.interpolate.Statement.{statement}
 use Rattle.polynomial.proofs.interpolate.Tie as tie
 
-returns : tie.Need-returns
-returns c = sym (interpolated-no _ _ (c .if1 .taken))
-
-divide-requires : tie.Need-divide-requires
-divide-requires c κs = search needs
-
-expand-requires : tie.Need-expand-requires
-expand-requires c κs = search needs
-
-same-length : tie.Need-same-length
-same-length c = search needs
-
-returns-2 : tie.Need-returns-2
-returns-2 c = c .before .before .expand .ensures ∙ ap (expanded _) (c .before .before .before .before .before .before .divide .ensures) ∙ sym (interpolate-is _ _) ∙ sym (interpolated-yes _ _ (c .before .before .before .before .before .before .before .before .if1 .left))
+made : (xs ys differences coefficients : List ℕ) → length xs ≡ length ys → differences ≡ divided xs ys → coefficients ≡ expanded xs differences
+    → coefficients ≡ interpolated xs ys
+made xs ys differences coefficients e d c = c ∙ ap (expanded xs) d ∙ sym (interpolated-yes xs ys e ∙ interpolate-is xs ys)
 
 pub interpolate-spec : {M : Type 1} → statement M
 interpolate-spec =
-    tie.close (tie.spec returns divide-requires expand-requires same-length returns-2)
+    tie.close
+    (tie.spec
+    (λ c. search interpolated-no)
+    (λ c κs. search needs)
+    (λ c κs. search needs)
+    (λ c. search needs)
+    (λ c. search made))

@@ -1,8 +1,8 @@
--- `polynomial::linear` meets its contract. The loop's invariant: what is done, and then the polynomial of what is left, is the whole.
+-- `polynomial::linear`: what is done, and then the definition on what is left, is the whole; the code's step is the definition's modulo p.
 -- Assumes nothing.
 use mathlib.Core.Path.{_≡_, refl, sym, ap, ap₂, _∙_}
-use mathlib.Core.List.{List, [], _∷_, _++_}
-use Prim.Native.Nat.{ℕ, zero, suc, _+_, _-_, _*_, _%_, _≤_, _<_, zero-le}
+use mathlib.Core.List.{List, _∷_, _++_}
+use Prim.Native.Nat.{ℕ, suc, _+_, _-_, _*_, _%_, _≤_, _<_}
 use native.Mathlib.Nat.{add-zero}
 use native.Mathlib.Omega.{arith}
 use lib.ListN.{length, getD, take, drop, set, length-set, drop-of-length-le}
@@ -13,6 +13,7 @@ use Rattle.field.proofs.Congruence.{_≈_, same-refl, same-sym, same-trans, eq-
 use Rattle.field.proofs.Operations.{mod-word, once}
 use Rattle.polynomial.specs.Internal.Newton.{linearFrom}
 use Rattle.polynomial.specs.Polynomial.{linear}
+use borrow.Author.Needs.{needs}
 use Rattle.polynomial.proofs.linear.Statement.{statement}
 use Rattle.polynomial.proofs.linear.Tie as tie
 
@@ -74,93 +75,32 @@ Inv-loop x words₀ i minus last j₀ words j = Turn x (length words₀) (linear
 abbrev μ-loop : tie.MeasureT-loop
 μ-loop x words₀ i minus last j₀ words j = last - j
 
-subtract-requires : tie.Need-subtract-requires Inv-loop μ-loop
-subtract-requires c κs = tt
-
-sub-last : tie.Need-sub-last Inv-loop μ-loop
-sub-last c = omega arith
-
-loop-holds : tie.Need-loop-holds Inv-loop μ-loop
-loop-holds c = first _ _ _ (c .before .before .pre)
-
-mul-add-product : tie.Need-mul-add-product Inv-loop μ-loop
-mul-add-product c = omega arith
-
-slice-read-add-product : tie.Need-slice-read-add-product Inv-loop μ-loop
-slice-read-add-product c = omega arith
-
-add-add-product : tie.Need-add-add-product Inv-loop μ-loop
-add-add-product c = omega arith
-
-mul-add-product-2 : tie.Need-mul-add-product-2 Inv-loop μ-loop
-mul-add-product-2 c = omega arith
-
-slice-read-add-product-2 : tie.Need-slice-read-add-product-2 Inv-loop μ-loop
-slice-read-add-product-2 c = omega arith
-
-add-product-requires : tie.Need-add-product-requires Inv-loop μ-loop
-add-product-requires c κs = tt
-
-mul-words : tie.Need-mul-words Inv-loop μ-loop
-mul-words c = omega arith
-
-slice-write-words : tie.Need-slice-write-words Inv-loop μ-loop
-slice-write-words c = omega arith
-
-add-j : tie.Need-add-j Inv-loop μ-loop
-add-j c = omega arith
-
-loop-less : tie.Need-loop-less Inv-loop μ-loop
-loop-less c = omega arith
-
-loop-again : tie.Need-loop-again Inv-loop μ-loop
-loop-again c = next _ _ _ _ _ _ _ (c .before .before .before .loop-test .taken) (c .before .before .before .before .loop .inv) (c .before .before .before .before .before .subtract .ensures) (c .add-product .ensures)
-
-mul-add : tie.Need-mul-add Inv-loop μ-loop
-mul-add c = omega arith
-
-slice-read-add : tie.Need-slice-read-add Inv-loop μ-loop
-slice-read-add c = omega arith
-
-add-requires : tie.Need-add-requires Inv-loop μ-loop
-add-requires c κs = tt
-
-mul-words-2 : tie.Need-mul-words-2 Inv-loop μ-loop
-mul-words-2 c = omega arith
-
-slice-write-words-2 : tie.Need-slice-write-words-2 Inv-loop μ-loop
-slice-write-words-2 c = omega arith
-
-same-length : tie.Need-same-length Inv-loop μ-loop
-same-length c = simp length-set (omega (arith, c .before .before .before .loop .inv .kept))
-
-returns : tie.Need-returns Inv-loop μ-loop
-returns c = last _ _ _ _ _ _ (c .before .before .loop-test .left) (c .before .before .before .loop .inv) (c .add .ensures)
-
 pub linear-spec : {M : Type 1} → statement M
 linear-spec =
     tie.close
     (tie.spec
     Inv-loop
     μ-loop
-    subtract-requires
-    sub-last
-    loop-holds
-    mul-add-product
-    slice-read-add-product
-    add-add-product
-    mul-add-product-2
-    slice-read-add-product-2
-    add-product-requires
-    mul-words
-    slice-write-words
-    add-j
-    loop-less
-    loop-again
-    mul-add
-    slice-read-add
-    add-requires
-    mul-words-2
-    slice-write-words-2
-    same-length
-    returns)
+    (λ c κs. tt)
+    (λ c. omega arith)
+    (λ c. search first)
+    -- words[j] = field::add_product(words[j], minus, words[j + 1]);
+    (λ c. omega arith)
+    (λ c. omega arith)
+    (λ c. omega arith)
+    (λ c. omega arith)
+    (λ c. omega arith)
+    (λ c κs. tt)
+    (λ c. omega arith)
+    (λ c. omega arith)
+    (λ c. omega arith)
+    (λ c. omega arith)
+    (λ c. search next)
+    -- words[last] = field::add(words[last], 0);
+    (λ c. omega arith)
+    (λ c. omega arith)
+    (λ c κs. tt)
+    (λ c. omega arith)
+    (λ c. omega arith)
+    (λ c. search needs)
+    (λ c. search last))

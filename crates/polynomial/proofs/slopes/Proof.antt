@@ -1,8 +1,8 @@
--- `polynomial::slopes` meets its contract. The loop's invariant: what is done, and then the slopes of what is left, are the whole.
+-- `polynomial::slopes`: what is done, and then the slopes of what is left, are the whole; a turn makes one slope by the definition.
 -- Assumes nothing.
-use mathlib.Core.Path.{_≡_, refl, sym, ap, ap₂, _∙_}
-use mathlib.Core.List.{List, [], _∷_, _++_, append-nil}
-use Prim.Native.Nat.{ℕ, zero, suc, _+_, _-_, _≤_, _<_, zero-le}
+use mathlib.Core.Path.{_≡_, refl, sym, ap₂, _∙_}
+use mathlib.Core.List.{List, _∷_, _++_, append-nil}
+use Prim.Native.Nat.{ℕ, _+_, _-_, _≤_, _<_}
 use native.Mathlib.Omega.{arith}
 use lib.ListN.{length, getD, take, drop, set, length-set, drop-of-length-le}
 use lib.Seq.{take-all}
@@ -10,6 +10,7 @@ use Rattle.lists.proofs.InPlace.{done-set, left-set, left-cons}
 use Rattle.field.specs.Field.{difference, product, inverse}
 use Rattle.polynomial.specs.Internal.Newton.{slopesFrom}
 use Rattle.polynomial.specs.Polynomial.{slopes}
+use borrow.Author.Needs.{needs}
 use Rattle.polynomial.proofs.slopes.Statement.{statement}
 use Rattle.polynomial.proofs.slopes.Tie as tie
 
@@ -55,90 +56,31 @@ Inv-loop points values₀ i x y j₀ values j = Turn x y points (length values�
 abbrev μ-loop : tie.MeasureT-loop
 μ-loop points values₀ i x y j₀ values j = length values - j
 
-mul-x : tie.Need-mul-x Inv-loop μ-loop
-mul-x c = omega arith
-
-shared-slice-read-x : tie.Need-shared-slice-read-x Inv-loop μ-loop
-shared-slice-read-x c = omega arith
-
-mul-y : tie.Need-mul-y Inv-loop μ-loop
-mul-y c = omega arith
-
-slice-read-y : tie.Need-slice-read-y Inv-loop μ-loop
-slice-read-y c = omega arith
-
-add-j : tie.Need-add-j Inv-loop μ-loop
-add-j c = omega arith
-
-loop-holds : tie.Need-loop-holds Inv-loop μ-loop
-loop-holds c = first _ _ _ (c .before .before .before .before .pre .1) (c .before .before .before .before .pre .0)
-
-mul-subtract : tie.Need-mul-subtract Inv-loop μ-loop
-mul-subtract c = omega arith
-
-slice-read-subtract : tie.Need-slice-read-subtract Inv-loop μ-loop
-slice-read-subtract c = omega arith
-
-subtract-requires : tie.Need-subtract-requires Inv-loop μ-loop
-subtract-requires c κs = tt
-
-mul-inverse-of-difference : tie.Need-mul-inverse-of-difference Inv-loop μ-loop
-mul-inverse-of-difference c = omega arith
-
-shared-slice-read-inverse-of-difference :
-    tie.Need-shared-slice-read-inverse-of-difference Inv-loop μ-loop
-shared-slice-read-inverse-of-difference c = omega arith
-
-inverse-of-difference-requires : tie.Need-inverse-of-difference-requires Inv-loop μ-loop
-inverse-of-difference-requires c κs = tt
-
-multiply-requires : tie.Need-multiply-requires Inv-loop μ-loop
-multiply-requires c κs = tt
-
-mul-values : tie.Need-mul-values Inv-loop μ-loop
-mul-values c = omega arith
-
-slice-write-values : tie.Need-slice-write-values Inv-loop μ-loop
-slice-write-values c = omega arith
-
-add-j-2 : tie.Need-add-j-2 Inv-loop μ-loop
-add-j-2 c = omega arith
-
-loop-less : tie.Need-loop-less Inv-loop μ-loop
-loop-less c = simp length-set (omega arith)
-
-loop-again : tie.Need-loop-again Inv-loop μ-loop
-loop-again c = next _ _ _ _ _ _ _ _ _ _ (c .before .before .before .before .before .loop-test .taken) (c .before .before .before .before .before .before .loop .inv) (c .before .before .before .subtract .ensures) (c .before .inverse-of-difference .ensures) (c .multiply .ensures)
-
-same-length : tie.Need-same-length Inv-loop μ-loop
-same-length c = c .before .loop .inv .kept
-
-returns : tie.Need-returns Inv-loop μ-loop
-returns c = last _ _ _ _ _ _ _ (c .loop-test .left) (c .before .loop .inv)
-
 pub slopes-spec : {M : Type 1} → statement M
 slopes-spec =
     tie.close
     (tie.spec
     Inv-loop
     μ-loop
-    mul-x
-    shared-slice-read-x
-    mul-y
-    slice-read-y
-    add-j
-    loop-holds
-    mul-subtract
-    slice-read-subtract
-    subtract-requires
-    mul-inverse-of-difference
-    shared-slice-read-inverse-of-difference
-    inverse-of-difference-requires
-    multiply-requires
-    mul-values
-    slice-write-values
-    add-j-2
-    loop-less
-    loop-again
-    same-length
-    returns)
+    -- x, y, and where the loop begins
+    (λ c. omega arith)
+    (λ c. omega arith)
+    (λ c. omega arith)
+    (λ c. omega arith)
+    (λ c. omega arith)
+    (λ c. search first)
+    -- one slope
+    (λ c. omega arith)
+    (λ c. omega arith)
+    (λ c κs. tt)
+    (λ c. omega arith)
+    (λ c. omega arith)
+    (λ c κs. tt)
+    (λ c κs. tt)
+    (λ c. omega arith)
+    (λ c. omega arith)
+    (λ c. omega arith)
+    (λ c. simp length-set (omega arith))
+    (λ c. search next)
+    (λ c. search needs)
+    (λ c. search last))

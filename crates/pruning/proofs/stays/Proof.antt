@@ -1,4 +1,4 @@
--- `pruning::stays` meets its contract.
+-- `pruning::stays`: the two tests are the definition's, the second only looked at where the first passes.
 -- Assumes nothing.
 use mathlib.Core.Path.{_≡_, sym, ap, ap₂, _∙_}
 use mathlib.Core.Bool.{Bool, true, false, _&&_}
@@ -17,23 +17,13 @@ first-passes t r votes b had e y v =
 first-fails : (b had other : Bool) → had ≡ b → had ≡ false → had ≡ b && other
 first-fails b had other e n = n ∙ ap (λ (x : Bool). x && other) (sym n ∙ e)
 
-has-requires : tie.Need-has-requires
-has-requires c κs = search needs
-
-common-requires : tie.Need-common-requires
-common-requires c κs = search needs
-
-cast-result : tie.Need-cast-result
-cast-result c = search needs
-
-add-result : tie.Need-add-result
-add-result c = search needs
-
-returns : tie.Need-returns
-returns c = first-passes _ _ _ _ _ (c .before .before .has .ensures) (c .before .if1 .taken) (c .common .ensures)
-
-returns-2 : tie.Need-returns-2
-returns-2 c = first-fails _ _ _ (c .before .has .ensures) (c .if1 .left)
-
 pub stays-spec : {M : Type 1} → statement M
-stays-spec = tie.close (tie.spec has-requires common-requires cast-result add-result returns returns-2)
+stays-spec =
+    tie.close
+    (tie.spec
+    (λ c κs. search needs)
+    (λ c κs. search needs)
+    (λ c. search needs)
+    (λ c. search needs)
+    (λ c. search first-passes)
+    (λ c. search first-fails))

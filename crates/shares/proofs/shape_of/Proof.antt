@@ -14,6 +14,6 @@ shape-of-spec =
     tie.close
     (tie.spec
     (λ c κs. search needs)
-    (λ c. let few : size (c .before .args .t) ≤ 31 = size-31 _ (search) in omega arith)
-    (λ c. let few : size (c .before .args .t) ≤ 31 = size-31 _ (search) in omega arith)
+    (λ c. let entry : tie.Start = search in let few : size (entry .args .t) ≤ 31 = size-31 _ search in omega arith)
+    (λ c. let entry : tie.Start = search in let few : size (entry .args .t) ≤ 31 = size-31 _ search in omega arith)
     (λ c. search shaped))

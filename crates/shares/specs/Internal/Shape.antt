@@ -4,6 +4,7 @@ use Prim.Native.Nat.{ℕ, _+_, _*_, _≤_}
 use mathlib.Core.Path.{_≡_}
 use mathlib.Core.List.{List}
 use lib.ListN.{length}
+use lib.Seq.{sets}
 use Rattle.members.specs.Members.{size}
 use Rattle.shares.specs.Layout.{width, capacity}
 use Rattle.shares.specs.declared.Shape.{Shape}
@@ -38,3 +39,7 @@ pub record Room (s : Shape) (words : List ℕ) : Type 0 where
 pub record At (s : Shape) (i place count at : ℕ) : Type 0 where
   pub stands : at ≡ i * s .width + place
   pub inside : at + count ≤ s .n * s .width
+
+-- a buffer with words stored in member i's share, from a place of it on
+abbrev pub stored : Shape → ℕ → ℕ → List ℕ → List ℕ → List ℕ
+stored s i place words buffer = sets buffer (i * s .width + place) words
