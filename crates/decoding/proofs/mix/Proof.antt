@@ -49,65 +49,23 @@ Inv-loop u f₀ v g j₀ f j = Turn u v (length f₀) g (mixed u f₀ v g) f j
 abbrev μ-loop : tie.MeasureT-loop
 μ-loop u f₀ v g j₀ f j = length f - j
 
-loop-holds : tie.Need-loop-holds Inv-loop μ-loop
-loop-holds c = first _ _ _ _ (c .before .before .pre)
-
-mul-multiply : tie.Need-mul-multiply Inv-loop μ-loop
-mul-multiply c = omega arith
-
-slice-read-multiply : tie.Need-slice-read-multiply Inv-loop μ-loop
-slice-read-multiply c = omega arith
-
-multiply-requires : tie.Need-multiply-requires Inv-loop μ-loop
-multiply-requires c κs = search needs
-
-mul-add-product : tie.Need-mul-add-product Inv-loop μ-loop
-mul-add-product c = omega arith
-
-shared-slice-read-add-product : tie.Need-shared-slice-read-add-product Inv-loop μ-loop
-shared-slice-read-add-product c = omega arith
-
-add-product-requires : tie.Need-add-product-requires Inv-loop μ-loop
-add-product-requires c κs = search needs
-
-mul-f : tie.Need-mul-f Inv-loop μ-loop
-mul-f c = omega arith
-
-slice-write-f : tie.Need-slice-write-f Inv-loop μ-loop
-slice-write-f c = omega arith
-
-add-j : tie.Need-add-j Inv-loop μ-loop
-add-j c = omega arith
-
-loop-less : tie.Need-loop-less Inv-loop μ-loop
-loop-less c = simp length-set (omega arith)
-
-loop-again : tie.Need-loop-again Inv-loop μ-loop
-loop-again c = next _ _ _ _ _ _ _ _ _ (c .before .before .before .before .loop-test .taken) (c .before .before .before .before .before .loop .inv) (c .before .before .multiply .ensures) (c .add-product .ensures)
-
-same-length : tie.Need-same-length Inv-loop μ-loop
-same-length c = c .before .loop .inv .kept
-
-returns : tie.Need-returns Inv-loop μ-loop
-returns c = last _ _ _ _ _ _ _ (c .loop-test .left) (c .before .loop .inv)
-
 pub mix-spec : {M : Type 1} → statement M
 mix-spec =
     tie.close
     (tie.spec
     Inv-loop
     μ-loop
-    loop-holds
-    mul-multiply
-    slice-read-multiply
-    multiply-requires
-    mul-add-product
-    shared-slice-read-add-product
-    add-product-requires
-    mul-f
-    slice-write-f
-    add-j
-    loop-less
-    loop-again
-    same-length
-    returns)
+    (λ c. search needs)
+    (λ c. omega arith)
+    (λ c. omega arith)
+    (λ c κs. search needs)
+    (λ c. omega arith)
+    (λ c. omega arith)
+    (λ c κs. search needs)
+    (λ c. omega arith)
+    (λ c. omega arith)
+    (λ c. omega arith)
+    (λ c. simp length-set (omega arith))
+    (λ c. search next)
+    (λ c. search needs)
+    (λ c. search last))

@@ -47,57 +47,21 @@ Inv-loop x f₀ minus carry₀ j₀ f carry j = Turn x (length f₀) (raised x 0
 abbrev μ-loop : tie.MeasureT-loop
 μ-loop x f₀ minus carry₀ j₀ f carry j = length f - j
 
-subtract-requires : tie.Need-subtract-requires Inv-loop μ-loop
-subtract-requires c κs = search needs
-
-loop-holds : tie.Need-loop-holds Inv-loop μ-loop
-loop-holds c = first _ _
-
-mul-old : tie.Need-mul-old Inv-loop μ-loop
-mul-old c = omega arith
-
-slice-read-old : tie.Need-slice-read-old Inv-loop μ-loop
-slice-read-old c = omega arith
-
-add-product-requires : tie.Need-add-product-requires Inv-loop μ-loop
-add-product-requires c κs = search needs
-
-mul-f : tie.Need-mul-f Inv-loop μ-loop
-mul-f c = omega arith
-
-slice-write-f : tie.Need-slice-write-f Inv-loop μ-loop
-slice-write-f c = omega arith
-
-add-j : tie.Need-add-j Inv-loop μ-loop
-add-j c = omega arith
-
-loop-less : tie.Need-loop-less Inv-loop μ-loop
-loop-less c = simp length-set (omega arith)
-
-loop-again : tie.Need-loop-again Inv-loop μ-loop
-loop-again c = next _ _ _ _ _ _ _ _ (c .before .before .loop-test .taken) (c .before .before .before .loop .inv) (c .before .before .before .before .subtract .ensures) (c .add-product .ensures)
-
-same-length : tie.Need-same-length Inv-loop μ-loop
-same-length c = c .before .loop .inv .kept
-
-returns : tie.Need-returns Inv-loop μ-loop
-returns c = last _ _ _ _ _ _ (c .loop-test .left) (c .before .loop .inv)
-
 pub raise-spec : {M : Type 1} → statement M
 raise-spec =
     tie.close
     (tie.spec
     Inv-loop
     μ-loop
-    subtract-requires
-    loop-holds
-    mul-old
-    slice-read-old
-    add-product-requires
-    mul-f
-    slice-write-f
-    add-j
-    loop-less
-    loop-again
-    same-length
-    returns)
+    (λ c κs. search needs)
+    (λ c. first _ _)
+    (λ c. omega arith)
+    (λ c. omega arith)
+    (λ c κs. search needs)
+    (λ c. omega arith)
+    (λ c. omega arith)
+    (λ c. omega arith)
+    (λ c. simp length-set (omega arith))
+    (λ c. search next)
+    (λ c. search needs)
+    (λ c. search last))
