@@ -23,7 +23,7 @@ use Rattle.polynomial.proofs.Interpolation.{Meets, meets-more, meets, length-in
 use Rattle.members.specs.Members.{size, has, card, membersOf}
 use Rattle.members.proofs.Listed.{passing, passing-sub, passing-every, length-passing, passing-members}
 use Rattle.decoding.specs.Decoding.{need, agreeing, Fits, nth, through, find}
-use Rattle.decoding.proofs.Points.{pointsOf, distinct-points}
+use Rattle.locator.proofs.Points.{pointsOf, distinct-points}
 use Rattle.decoding.proofs.Unique.{need-least, agrees, agrees-member, agrees-meets, card-agreeing, agreeing-same, fits-same}
 
 -- what a search that finds fs has found

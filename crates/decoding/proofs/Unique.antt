@@ -24,7 +24,7 @@ use Rattle.members.specs.Members.{size, has, card}
 use Rattle.members.proofs.Masks.{card-setOf, setOf-ext}
 use Rattle.members.proofs.Listed.{passing, passing-sub, passing-every, length-passing}
 use Rattle.decoding.specs.Decoding.{surplus, need, agreeing, Fits}
-use Rattle.decoding.proofs.Points.{pointsOf, distinct-points}
+use Rattle.locator.proofs.Points.{pointsOf, distinct-points}
 
 -- two sets of enough members, of a set of s, share t + 1
 pub need-twice : (t s : ℕ) → suc t + s ≤ need t s + need t s

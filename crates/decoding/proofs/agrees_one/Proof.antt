@@ -1,4 +1,4 @@
--- `decoding::agrees_one` meets its contract.
+-- Both tests that can fail are those of a member that agrees.
 -- Assumes nothing.
 use borrow.Author.Needs.{needs}
 use Rattle.decoding.proofs.Turns.{absent, present, is-value, is-not-value}

@@ -1,4 +1,4 @@
--- `decoding::solve` meets its contract.
+-- A right guess is the answer, and else it is worked out in full.
 -- Assumes nothing.
 use borrow.Author.Needs.{needs}
 use Rattle.decoding.proofs.solve.Statement.{statement}

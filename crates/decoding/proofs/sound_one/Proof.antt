@@ -1,6 +1,7 @@
--- `decoding::sound_one` meets its contract.
+-- Both tests that can fail are those of a sound member.
 -- Assumes nothing.
 use borrow.Author.Needs.{needs}
+use Rattle.decoding.specs.Internal.Candidate.{sound}
 use Rattle.decoding.proofs.Turns.{absent, present, is-zero, is-not-zero}
 use Rattle.decoding.proofs.sound_one.Statement.{statement}
 use Rattle.decoding.proofs.sound_one.Tie as tie
@@ -10,9 +11,9 @@ sound-one-spec =
     tie.close
     (tie.spec
     (λ c κs. search needs)
-    (λ c. search absent)
+    (λ c. unfold sound in search absent)
     (λ c. search needs)
     (λ c. search needs)
     (λ c κs. search needs)
-    (λ c. search (present, is-zero))
-    (λ c. search (present, is-not-zero)))
+    (λ c. unfold sound in search (present, is-zero))
+    (λ c. unfold sound in search (present, is-not-zero)))
