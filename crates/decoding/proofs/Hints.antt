@@ -1,10 +1,10 @@
 -- A polynomial that enough members agree with is the one that decoding answers, wherever it came from.
 -- Assumes nothing.
-use mathlib.Core.Path.{_≡_, refl, sym, ap, _∙_, subst}
+use mathlib.Core.Path.{_≡_, sym, ap, _∙_, subst}
 use mathlib.Core.Bool.{Bool, true, false, false≢true}
-use mathlib.Core.List.{List, [], _∷_}
-use Prim.Native.Nat.{ℕ, suc, _+_, _≤_, _<_, _^_}
-use native.Mathlib.Nat.{le-trans, le-of-eq}
+use mathlib.Core.List.{List}
+use Prim.Native.Nat.{ℕ, suc, _+_, _≤_, _<_}
+use native.Mathlib.Nat.{le-of-eq}
 use native.Mathlib.Numerals.{add-one}
 use lib.ListN.{length, getD, take}
 use borrow.Author.Tests.{leb-true}
@@ -14,12 +14,10 @@ use Rattle.field.specs.Field.{prime}
 use Rattle.polynomial.specs.Polynomial.{interpolate, interpolated}
 use Rattle.polynomial.proofs.Interpolation.{length-interpolate, interpolate-words}
 use Rattle.polynomial.proofs.Newton.{interpolated-yes}
-use Rattle.members.specs.Members.{size, card}
-use Rattle.decoding.specs.Decoding.{need, agreeing, Fits, find, decodedFrom}
+use Rattle.decoding.specs.Decoding.{decodedFrom}
 use Rattle.decoding.specs.Internal.Candidate.{enoughAgree, Gathered}
 use Rattle.decoding.specs.Internal.Hint.{Guessed}
 use Rattle.decoding.specs.Internal.Roster.{Roster}
-use Rattle.members.proofs.Words.{card-32}
 use Rattle.decoding.proofs.Points.{distinct-roster}
 use Rattle.decoding.proofs.Search.{find-is}
 use Rattle.decoding.proofs.Turns.{chosen-part}

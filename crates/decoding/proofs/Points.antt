@@ -2,14 +2,13 @@
 -- Assumes nothing.
 use mathlib.Core.Path.{_≡_, sym, ap, _∙_, subst}
 use mathlib.Core.List.{List, _++_}
-use Prim.Native.Nat.{ℕ, suc, _≤_, _<_}
+use Prim.Native.Nat.{ℕ, suc, _≤_}
 use native.Mathlib.Nat.{suc-inj}
 use native.Mathlib.Omega.{arith}
 use lib.ListN.{length, getD, take, drop, length-append}
 use lib.Seq.{length-take-le, take-at}
 use Rattle.lists.specs.Tabulate.{tab}
 use Rattle.lists.proofs.Tabulate.{length-tab, tab-getD}
-use Rattle.field.specs.Field.{prime}
 use Rattle.field.proofs.Congruence.{eq-same}
 use Rattle.polynomial.proofs.Roots.{Distinct, distinct-tab}
 use Rattle.members.specs.Members.{size, ownPoints}

@@ -43,7 +43,7 @@ module _ (t : ℕ) (values : List ℕ) (set len : ℕ) where
   check-11 : List Check
   check-11 = 11 unless eqb (length values) (size t) ∷ check-19
 
-  pub refuses-1 : isThreshold t ≡ false → decode t values set len ≡ undecoded len 1
+  refuses-1 : isThreshold t ≡ false → decode t values set len ≡ undecoded len 1
   unfolding decode decoded check-11 check-19 check-12 check-17 check-18
   refuses-1 e = check-fails (undecoded len) 1 (isThreshold t) check-11 decoded e
 
@@ -52,7 +52,7 @@ module _ (t : ℕ) (values : List ℕ) (set len : ℕ) where
     unfolding decode decoded check-11 check-19 check-12 check-17 check-18
     past-1 = check-passes (undecoded len) 1 (isThreshold t) check-11 decoded threshold
 
-    pub refuses-11 : eqb (length values) (size t) ≡ false → decode t values set len ≡ undecoded len 11
+    refuses-11 : eqb (length values) (size t) ≡ false → decode t values set len ≡ undecoded len 11
     unfolding check-11
     refuses-11 e = past-1 ∙ check-fails (undecoded len) 11 (eqb (length values) (size t)) check-19 decoded e
 
@@ -61,7 +61,7 @@ module _ (t : ℕ) (values : List ℕ) (set len : ℕ) where
       unfolding check-11
       past-11 = past-1 ∙ check-passes (undecoded len) 11 (eqb (length values) (size t)) check-19 decoded n-values
 
-      pub refuses-19 : eqb len (suc t) ≡ false → decode t values set len ≡ undecoded len 19
+      refuses-19 : eqb len (suc t) ≡ false → decode t values set len ≡ undecoded len 19
       unfolding check-19
       refuses-19 e = past-11 ∙ check-fails (undecoded len) 19 (eqb len (suc t)) check-12 decoded e
 
@@ -70,7 +70,7 @@ module _ (t : ℕ) (values : List ℕ) (set len : ℕ) where
         unfolding check-19
         past-19 = past-11 ∙ check-passes (undecoded len) 19 (eqb len (suc t)) check-12 decoded room
 
-        pub refuses-12 : isSet (size t) set ≡ false → decode t values set len ≡ undecoded len 12
+        refuses-12 : isSet (size t) set ≡ false → decode t values set len ≡ undecoded len 12
         unfolding check-12
         refuses-12 e = past-19 ∙ check-fails (undecoded len) 12 (isSet (size t) set) check-17 decoded e
 
@@ -79,7 +79,7 @@ module _ (t : ℕ) (values : List ℕ) (set len : ℕ) where
           unfolding check-12
           past-12 = past-19 ∙ check-passes (undecoded len) 12 (isSet (size t) set) check-17 decoded proper
 
-          pub refuses-17 : leb (suc t) (card (size t) set) ≡ false → decode t values set len ≡ undecoded len 17
+          refuses-17 : leb (suc t) (card (size t) set) ≡ false → decode t values set len ≡ undecoded len 17
           unfolding check-17
           refuses-17 e = past-12 ∙ check-fails (undecoded len) 17 (leb (suc t) (card (size t) set)) check-18 decoded e
 
@@ -88,7 +88,7 @@ module _ (t : ℕ) (values : List ℕ) (set len : ℕ) where
             unfolding check-17
             past-17 = past-12 ∙ check-passes (undecoded len) 17 (leb (suc t) (card (size t) set)) check-18 decoded members
 
-            pub refuses-18 : all (size t) (judgedAt values set) ≡ false → decode t values set len ≡ undecoded len 18
+            refuses-18 : all (size t) (judgedAt values set) ≡ false → decode t values set len ≡ undecoded len 18
             unfolding check-18
             refuses-18 e = past-17 ∙ check-fails (undecoded len) 18 (all (size t) (judgedAt values set)) [] decoded e
 

@@ -14,7 +14,7 @@ use lib.Seq.{length-take-le, take-suc-set, take-set-le, take-at, take-all}
 use borrow.Author.Tests.{eq-eqb, ne-eqb, not-true, not-false}
 use Rattle.lists.specs.Tabulate.{tab, all, count, keep}
 use Rattle.lists.proofs.Bools.{clash, false-of}
-use Rattle.lists.proofs.Count.{toℕ, toℕ-le, count-le, count-last}
+use Rattle.lists.proofs.Count.{toℕ, toℕ-le, count-last}
 use Rattle.lists.proofs.Tabulate.{all-intro, all-elim}
 use Rattle.polynomial.specs.Polynomial.{value}
 use Rattle.members.specs.Members.{size, has, card}

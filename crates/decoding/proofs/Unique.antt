@@ -75,7 +75,8 @@ both-agree : (xs : List ℕ) (t d : ℕ) (y : ℕ → ℕ → ℕ) (set : ℕ) (
     → suc t ≤ count (size t) (λ i. agrees xs d y set f i && agrees xs d y set g i)
 unfolding card
 both-agree xs t d y set f g F G =
-    shared (count (size t) (has set)) (count (size t) (λ i. agrees xs d y set f i && agrees xs d y set g i)) (need-twice t (card (size t) set)) (le-trans (F .enough) (le-of-eq (card-agreeing xs t d y set f))) (le-trans (G .enough) (le-of-eq (card-agreeing xs t d y set g)))
+    shared (count (size t) (has set)) (count (size t) (λ i. agrees xs d y set f i && agrees xs d y set g i)) (need-twice t (card (size t) set))
+    (le-trans (F .enough) (le-of-eq (card-agreeing xs t d y set f))) (le-trans (G .enough) (le-of-eq (card-agreeing xs t d y set g)))
     (count-common (size t) (agrees xs d y set f) (agrees xs d y set g) (has set) (λ i h. agrees-member xs d y set f i) (λ i h. agrees-member xs d y set g i))
   where
     shared : (s c : ℕ) {m a b : ℕ} → suc t + s ≤ m + m → m ≤ a → m ≤ b → a + b ≤ s + c → suc t ≤ c

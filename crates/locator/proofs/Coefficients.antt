@@ -73,9 +73,6 @@ no-value zs f m h l d e x =
 
 -- ---- combinations
 
-zero-term : (b : ℕ) → 0 ≡ b * 0
-zero-term b = omega arith
-
 at-combine : (a : ℕ) (f : List ℕ) (b : ℕ) (g : List ℕ) (j : ℕ) → getD (combine a f b g) j 0 ≈ a * getD f j 0 + b * getD g j 0
 unfolding combine
 at-combine a [] b [] j = same-eq (omega arith)
@@ -123,10 +120,6 @@ raised-term x c a =
     (same-refl ⊕ same-trans (product-same (difference 0 x) a) (same-trans (difference-same 0 x) (same-eq (omega arith)) ⊗ same-refl))
 
 -- the coefficients of (X − x) · f
-pub at-raised-first : (x c a : ℕ) (f : List ℕ) → getD (raised x c (a ∷ f)) 0 0 ≈ c + 65520 * x * a
-unfolding raised
-at-raised-first x c a f = raised-term x c a
-
 pub at-raised : (x c : ℕ) (f : List ℕ) (j : ℕ) → suc j < length f → getD (raised x c f) (suc j) 0 ≈ getD f j 0 + 65520 * x * getD f (suc j) 0
 unfolding raised
 at-raised x c [] j h = absurd (not-suc-le-zero h)

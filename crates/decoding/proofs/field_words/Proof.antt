@@ -1,23 +1,16 @@
--- `decoding::field_words` meets its contract. The loop's invariant: the members before i pass.
+-- The members before i pass, and so all do at the end; the first that does not decides.
 -- Assumes nothing.
-use mathlib.Core.Bool.{Bool, _||_, not}
-use mathlib.Core.List.{List}
-use Prim.Native.Nat.{ℕ, _-_}
+use Prim.Native.Nat.{_-_}
 use native.Mathlib.Omega.{arith}
 use borrow.Author.Needs.{needs}
-use lib.ListN.{length, getD}
-use Rattle.field.specs.Field.{isFieldWord}
-use Rattle.members.specs.Members.{has}
+use lib.ListN.{length}
+use Rattle.decoding.proofs.Refusals.{judgedAt}
 use Rattle.decoding.proofs.Turns.{Passing, passing-first, passing-next, passing-fails, passing-last}
 use Rattle.decoding.proofs.field_words.Statement.{statement}
 use Rattle.decoding.proofs.field_words.Tie as tie
 
--- the test of member i
-abbrev passes : List ℕ → ℕ → ℕ → Bool
-passes values set i = not (has set i) || isFieldWord (getD values i 0)
-
 abbrev Inv-loop : tie.InvT-loop
-Inv-loop values set i₀ i = Passing (passes values set) (length values) i
+Inv-loop values set i₀ i = Passing (judgedAt values set) (length values) i
 
 abbrev μ-loop : tie.MeasureT-loop
 μ-loop values set i₀ i = length values - i

@@ -1,4 +1,4 @@
--- `decoding::refuse` meets its contract.
+-- The buffer is filled with the word that the definition fills it with.
 -- Assumes nothing.
 use mathlib.Core.Path.{_≡_, ap}
 use mathlib.Core.List.{List}

@@ -1,8 +1,8 @@
 -- In place, from the front: what is done, and then the combination of what is left, is the whole.
 -- Assumes nothing.
-use mathlib.Core.Path.{_≡_, refl, sym, ap, ap₂, _∙_}
+use mathlib.Core.Path.{_≡_, sym, ap, ap₂, _∙_}
 use mathlib.Core.List.{List, _∷_, _++_, append-nil}
-use Prim.Native.Nat.{ℕ, _+_, _-_, _≤_, _<_, zero-le}
+use Prim.Native.Nat.{ℕ, _+_, _-_, _≤_, _<_}
 use native.Mathlib.Omega.{arith}
 use borrow.Author.Needs.{needs}
 use lib.ListN.{length, getD, take, drop, set, length-set, drop-of-length-le}
@@ -18,9 +18,6 @@ record Turn (u v n : ℕ) (g whole f : List ℕ) (j : ℕ) : Type 0 where
   long : length f ≡ length g
   kept : length f ≡ n
   so-far : take j f ++ mixed u (drop j f) v (drop j g) ≡ whole
-
-first : (u v : ℕ) (g f : List ℕ) → length f ≡ length g → Turn u v (length f) g (mixed u f v g) f 0
-first u v g f e = record { inside = zero-le; long = e; kept = refl; so-far = refl }
 
 next : (u v n : ℕ) (g whole f : List ℕ) (j m w : ℕ) → j < length f → Turn u v n g whole f j → m ≡ product u (getD f j 0)
     → w ≡ sum m (product v (getD g j 0)) → Turn u v n g whole (set f j w) (j + 1)

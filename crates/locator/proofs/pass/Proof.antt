@@ -1,7 +1,6 @@
 -- After i members the buffers are the state after i members, and so after all.
 -- Assumes nothing.
 use Prim.Native.Nat.{_-_, _≤_}
-use native.Mathlib.Omega.{arith}
 use borrow.Author.Needs.{needs}
 use lib.ListN.{length}
 use Rattle.members.specs.Members.{size}

@@ -1,8 +1,8 @@
 -- In place, from the front: what is done, and then (X − x) times what is left with the carry, is the whole.
 -- Assumes nothing.
-use mathlib.Core.Path.{_≡_, refl, sym, ap, ap₂, _∙_}
+use mathlib.Core.Path.{_≡_, sym, ap, ap₂, _∙_}
 use mathlib.Core.List.{List, _∷_, _++_, append-nil}
-use Prim.Native.Nat.{ℕ, _+_, _-_, _≤_, _<_, zero-le}
+use Prim.Native.Nat.{ℕ, _+_, _-_, _≤_, _<_}
 use native.Mathlib.Omega.{arith}
 use borrow.Author.Needs.{needs}
 use lib.ListN.{length, getD, take, drop, set, length-set, drop-of-length-le}
@@ -17,9 +17,6 @@ record Turn (x n : ℕ) (whole f : List ℕ) (carry j : ℕ) : Type 0 where
   inside : j ≤ length f
   kept : length f ≡ n
   so-far : take j f ++ raised x carry (drop j f) ≡ whole
-
-first : (x : ℕ) (f : List ℕ) → Turn x (length f) (raised x 0 f) f 0 0
-first x f = record { inside = zero-le; kept = refl; so-far = refl }
 
 next : (x n : ℕ) (whole f : List ℕ) (carry j minus w : ℕ) → j < length f → Turn x n whole f carry j → minus ≡ difference 0 x
     → w ≡ sum carry (product minus (getD f j 0)) → Turn x n whole (set f j w) (getD f j 0) (j + 1)
@@ -54,7 +51,7 @@ raise-spec =
     Inv-loop
     μ-loop
     (λ c κs. search needs)
-    (λ c. first _ _)
+    (λ c. search needs)
     (λ c. omega arith)
     (λ c. omega arith)
     (λ c κs. search needs)
