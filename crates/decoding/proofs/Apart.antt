@@ -1,10 +1,10 @@
 -- Decoding looks at the words of members alone; and words that too few members meet so far have no common polynomials.
 -- Assumes nothing.
 use mathlib.Core.Path.{_≡_, refl, sym, ap, _∙_}
-use mathlib.Core.Bool.{Bool, true, _&&_}
+use mathlib.Core.Bool.{Bool, _&&_}
 use mathlib.Core.Option.{Option, none, some}
 use mathlib.Core.List.{List, [], _∷_}
-use Prim.Native.Nat.{ℕ, suc, _≤_, _<_, zero-le, suc-le-suc}
+use Prim.Native.Nat.{ℕ, _≤_, _<_, zero-le, suc-le-suc}
 use native.Mathlib.Nat.{le-trans, le-of-eq, lt-of-lt-of-le, not-le-of-lt}
 use lib.Dec.{eqb}
 use lib.ListN.{length, getD}
@@ -23,7 +23,8 @@ use Rattle.decoding.proofs.Search.{Found, find-found, find-none, none-f
 use Rattle.decoding.proofs.Unique.{agrees, agrees-member, agrees-word, card-agreeing, fits-same}
 use Rattle.decoding.proofs.Words.{wordAt, fits-word}
 
-fits-ext : (xs : List ℕ) (t d set : ℕ) (y z : ℕ → ℕ → ℕ) → ((i : ℕ) → i < size t → (k : ℕ) → k < d → y i k ≡ z i k) → (f : ℕ → List ℕ) → Fits xs t d z set f → Fits xs t d y set f
+fits-ext : (xs : List ℕ) (t d set : ℕ) (y z : ℕ → ℕ → ℕ) → ((i : ℕ) → i < size t → (k : ℕ) → k < d → y i k ≡ z i k) → (f : ℕ → List ℕ)
+    → Fits xs t d z set f → Fits xs t d y set f
 unfolding agreeing
 fits-ext xs t d set y z same f F =
     record {

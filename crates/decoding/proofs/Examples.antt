@@ -8,5 +8,6 @@ use Rattle.decoding.specs.Decoding.{surplus, need, agreeing, through, fi
 use Rattle.decoding.specs.Examples.{Examples}
 
 pub examples : Examples
-unfolding tab all count keep first choose difference product power inverse eval value linear slopes interpolate size ownPoints bit has setOf card membersOf surplus need agreeing through find undecoded decodedFrom decode
+unfolding tab all count keep first choose difference product power inverse eval value linear slopes interpolate size
+    ownPoints bit has setOf card membersOf surplus need agreeing through find undecoded decodedFrom decode
 examples = search

@@ -1,16 +1,12 @@
 -- What is proved of this crate.
 pub mod Answers
 pub mod Apart
-pub mod Coefficients
+pub mod Candidate
 pub mod Examples
 pub mod Hints
-pub mod Invariant
-pub mod Locator
-pub mod Passes
 pub mod Points
 pub mod Refusals
 pub mod Search
-pub mod Steps
 pub mod Turns
 pub mod Unique
 pub mod Words

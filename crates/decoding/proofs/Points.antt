@@ -1,45 +1,67 @@
--- The points of some of the members: distinct, where all points are.
+-- The points of a roster are distinct, and the members' own points are a roster.
 -- Assumes nothing.
 use mathlib.Core.Path.{_≡_, sym, ap, _∙_, subst}
-use mathlib.Core.Bool.{Bool, true}
-use mathlib.Core.List.{List, map, Sublistᴰ, Sublistᴰ·slnil, Sublistᴰ·cons, Sublistᴰ·cons-cons}
-use Prim.Native.Nat.{ℕ, zero, suc, _+_, _*_, _≤_, _<_, zero-le, suc-le-suc}
-use native.Mathlib.Nat.{suc-ne-zero, suc-inj}
+use mathlib.Core.List.{List, _++_}
+use Prim.Native.Nat.{ℕ, suc, _≤_}
+use native.Mathlib.Nat.{suc-inj}
 use native.Mathlib.Omega.{arith}
-use lib.ListN.{length, getD, length-map}
-use Rattle.lists.specs.Tabulate.{tab, count}
-use Rattle.lists.proofs.Blocks.{every-tab}
-use Rattle.lists.proofs.Every.{Every, every-both}
-use Rattle.lists.proofs.Tabulate.{length-tab, getD-tab, map-tab, tab-getD}
-use Rattle.lists.proofs.Choose.{every-sub, every-mapped, sub-map}
-use Rattle.field.proofs.Congruence.{_≈_}
+use lib.ListN.{length, getD, take, drop, length-append}
+use lib.Seq.{length-take-le, take-at}
+use Rattle.lists.specs.Tabulate.{tab}
+use Rattle.lists.proofs.Tabulate.{length-tab, tab-getD}
+use Rattle.field.proofs.Congruence.{eq-same}
+use Rattle.polynomial.proofs.Roots.{Distinct, distinct-tab}
 use Rattle.members.specs.Members.{size, ownPoints}
-use Rattle.members.proofs.Listed.{passing, passing-sub, passing-every, passing-below, length-passing}
-use Rattle.polynomial.proofs.Roots.{Distinct, distinct-sub, distinct-tab}
+use Rattle.members.proofs.Points.{length-own, own-point}
+use Rattle.members.proofs.Words.{size-31}
+use Rattle.decoding.specs.Decoding.{Decoded, find, decodedFrom}
+use Rattle.decoding.specs.Internal.Roster.{Roster}
 
--- the points of the members ms
-abbrev pub pointsOf : List ℕ → List ℕ → List ℕ
-pointsOf xs ms = map (λ i. getD xs i 0) ms
+pub distinct-roster : {t : ℕ} {xs : List ℕ} → Roster t xs → Distinct xs
+distinct-roster {t} {xs} R =
+    subst Distinct (ap (λ (n : ℕ). tab n (λ i. getD xs i 0)) (sym (R .long)) ∙ tab-getD xs 0)
+    (distinct-tab (size t) (λ i. getD xs i 0) (λ i j k l e. R .apart i j k l (eq-same (R .words i k) (R .words j l) e)))
 
-pub all-points : (xs : List ℕ) (n : ℕ) → length xs ≡ n → pointsOf xs (tab n (λ i. i)) ≡ xs
-all-points xs n e = map-tab (λ i. getD xs i 0) n (λ i. i) ∙ ap (λ (m : ℕ). tab m (λ i. getD xs i 0)) (sym e) ∙ tab-getD xs 0
+pub own-roster : (t : ℕ) → t ≤ 15 → Roster t (ownPoints t)
+own-roster t h =
+    record {
+      long = length-own t;
+      words = λ i k. omega (arith, own-point t i k, size-31 t h);
+      apart = λ i j k l e. suc-inj (sym (own-point t i k) ∙ e ∙ own-point t j l);
+    }
 
-pub distinct-points : (xs : List ℕ) (n : ℕ) {ms : List ℕ} → length xs ≡ n → Distinct xs → Sublistᴰ ms (tab n (λ i. i)) → Distinct (pointsOf xs ms)
-distinct-points xs n {ms} e d s =
-    distinct-sub (sub-map (λ i. getD xs i 0) s) (subst Distinct (sym (all-points xs n e)) d)
-
--- the points of the members that pass a test
-module _ (xs : List ℕ) (n : ℕ) (long : length xs ≡ n) (distinct : Distinct xs) (p : ℕ → Bool) where
-  pub passing-points : Distinct (pointsOf xs (passing n p))
-  passing-points = distinct-points xs n long distinct (passing-sub n p)
-
-  pub count-points : length (pointsOf xs (passing n p)) ≡ count n p
-  count-points = length-map (passing n p) (λ i. getD xs i 0) ∙ length-passing n p
-
-  pub at-points : {P : ℕ → Type 0} → ((i : ℕ) → i < n → p i ≡ true → P (getD xs i 0)) → Every P (pointsOf xs (passing n p))
-  at-points h = every-mapped (λ i. getD xs i 0) (every-both h (passing-below n p) (passing-every n p))
-
--- the members' own
 pub own-distinct : (t : ℕ) → t ≤ 15 → Distinct (ownPoints t)
-unfolding ownPoints size
-own-distinct t h = distinct-tab (2 * t + 1) (λ i. suc i) (λ i j k l e. omega arith)
+own-distinct t h = distinct-roster (own-roster t h)
+
+-- they are made at the front of a buffer of 31 words
+module _ (t n : ℕ) (points : List ℕ) (small : t ≤ 15) (en : n ≡ size t) (room : length points ≡ 31) where
+  pub own-fits : n ≤ length points
+  own-fits = omega (arith, size-31 t small)
+
+  pub own-part : n ≡ length (take n points)
+  own-part = sym (length-take-le n points own-fits)
+
+  pub own-few : length (take n points) ≤ 31
+  own-few = omega (arith, own-part, own-fits)
+
+  module _ (own : List ℕ) (made : own ≡ tab (length (take n points)) (λ i. suc i)) where
+    long-own : length own ≡ n
+    long-own = ap length made ∙ length-tab (length (take n points)) (λ i. suc i) ∙ sym own-part
+
+    own-lent : take n (own ++ drop n points) ≡ ownPoints t
+    unfolding ownPoints
+    own-lent = take-at own (drop n points) n long-own ∙ made ∙ ap (λ (k : ℕ). tab k (λ i. suc i)) (sym own-part ∙ en)
+
+    pub lent-fits : n ≤ length (own ++ drop n points)
+    lent-fits = omega (arith, length-append own (drop n points), long-own)
+
+    pub lent-part : n ≡ length (take n (own ++ drop n points))
+    lent-part = sym (length-take-le n (own ++ drop n points) lent-fits)
+
+    pub lent-roster : Roster t (take n (own ++ drop n points))
+    lent-roster = subst (Roster t) (sym own-lent) (own-roster t small)
+
+    pub solved-own : (values : List ℕ) (set : ℕ) (answer : Decoded)
+        → answer ≡ decodedFrom (suc t) (find (take n (own ++ drop n points)) t 1 (λ i k. getD values i 0) set)
+        → answer ≡ decodedFrom (suc t) (find (ownPoints t) t 1 (λ i k. getD values i 0) set)
+    solved-own values set answer e = e ∙ ap (λ (xs : List ℕ). decodedFrom (suc t) (find xs t 1 (λ i k. getD values i 0) set)) own-lent

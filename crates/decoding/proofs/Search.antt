@@ -4,7 +4,7 @@ use mathlib.Core.Path.{_≡_, refl, sym, ap, _∙_, subst}
 use mathlib.Core.Bool.{Bool, true}
 use mathlib.Core.Option.{Option, none, some, Option·none-ne-some}
 use mathlib.Core.List.{List, [], _∷_, map, List·Memᴰ, Memᴰ·map, Memᴰ·of-map, Sublistᴰ, Sublistᴰ·trans}
-use Prim.Native.Nat.{ℕ, suc, _+_, _≤_, _<_}
+use Prim.Native.Nat.{ℕ, suc, _≤_, _<_}
 use native.Mathlib.Nat.{le-trans, le-of-eq}
 use native.Mathlib.Omega.{arith}
 use lib.Dec.{leb}
@@ -20,10 +20,10 @@ use Rattle.field.proofs.Congruence.{_≈_, same-sym, same-trans, same-eq}
 use Rattle.polynomial.specs.Polynomial.{eval, interpolate}
 use Rattle.polynomial.proofs.Roots.{distinct-sub, Distinct, agree, agree-equal}
 use Rattle.polynomial.proofs.Interpolation.{Meets, meets-more, meets, length-interpolate, interpolate-words}
-use Rattle.members.specs.Members.{size, has, card, membersOf}
+use Rattle.members.specs.Members.{size, card, membersOf}
 use Rattle.members.proofs.Listed.{passing, passing-sub, passing-every, length-passing, passing-members}
 use Rattle.decoding.specs.Decoding.{need, agreeing, Fits, nth, through, find}
-use Rattle.decoding.proofs.Points.{pointsOf, distinct-points}
+use Rattle.locator.proofs.Points.{pointsOf, distinct-points}
 use Rattle.decoding.proofs.Unique.{need-least, agrees, agrees-member, agrees-meets, card-agreeing, agreeing-same, fits-same}
 
 -- what a search that finds fs has found

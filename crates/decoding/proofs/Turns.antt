@@ -1,7 +1,6 @@
 -- The loops that test each member of the set: by what a test answers, how a count grows, and what is gathered.
 -- Assumes nothing.
 use mathlib.Core.Path.{_≡_, refl, sym, ap, ap₂, _∙_, subst}
-use mathlib.Core.Logic.{_⊎_, inl, inr}
 use mathlib.Core.Bool.{Bool, true, false, cond, _&&_, _||_, not, and-true}
 use mathlib.Core.List.{List, [], _∷_, _++_, map, map-append, append-nil}
 use Prim.Native.Nat.{ℕ, suc, _+_, _-_, _≤_, _<_, zero-le}
@@ -11,18 +10,17 @@ use native.Mathlib.Numerals.{add-one}
 use native.Mathlib.Omega.{arith}
 use lib.Dec.{eqb}
 use lib.ListN.{length, getD, take, set as store, length-set, length-append}
-use lib.Seq.{take-suc-set, take-set-le, take-at, take-all}
+use lib.Seq.{length-take-le, take-suc-set, take-set-le, take-at, take-all}
 use borrow.Author.Tests.{eq-eqb, ne-eqb, not-true, not-false}
 use Rattle.lists.specs.Tabulate.{tab, all, count, keep}
 use Rattle.lists.proofs.Bools.{clash, false-of}
-use Rattle.lists.proofs.Count.{toℕ, toℕ-le, count-le, count-last}
+use Rattle.lists.proofs.Count.{toℕ, toℕ-le, count-last}
 use Rattle.lists.proofs.Tabulate.{all-intro, all-elim}
 use Rattle.polynomial.specs.Polynomial.{value}
-use Rattle.members.specs.Members.{size, ownPoints, has, card}
+use Rattle.members.specs.Members.{size, has, card}
 use Rattle.members.proofs.Listed.{passing, length-passing, passing-more, passing-prefix}
-use Rattle.decoding.specs.Internal.Algorithm.{sound, chosen, Gathered}
+use Rattle.decoding.specs.Internal.Candidate.{sound, chosen, Gathered}
 use Rattle.decoding.specs.Decoding.{agreeing}
-use Rattle.members.proofs.Points.{own-point}
 use Rattle.decoding.proofs.Unique.{agrees, card-agreeing}
 
 -- ---- a test of one member of the set
@@ -90,28 +88,39 @@ pub counted-next : (p : ℕ → Bool) (n m i r : ℕ) → i < n → Counted p n 
 counted-next p n m i r h t e =
     record { inside = omega arith; so-far = ap₂ _+_ (t .so-far) e ∙ sym (count-last i p) ∙ ap (λ (k : ℕ). count k p) (sym (add-one i)) }
 
-pub counted-small : (p : ℕ → Bool) (n m i : ℕ) → Counted p n m i → m ≤ n
-counted-small p n m i t = omega (arith, t .so-far, t .inside, count-le i p)
+pub at-most-one : (r : ℕ) (b : Bool) → r ≡ toℕ b → r ≤ 1
+at-most-one r b e = omega (arith, toℕ-le b)
 
 all-one : (p : ℕ → Bool) → all 1 p ≡ p 0
 unfolding all
 all-one p = and-true (p 0)
 
-module _ (t : ℕ) (values : List ℕ) (set : ℕ) (f : List ℕ) where
-  -- the code's test at member i is the definition's
-  pub agrees-at : (i r : ℕ) → i < size t → r ≡ toℕ (has set i && eqb (value f (i + 1)) (getD values i 0))
-      → r ≡ toℕ (agrees (ownPoints t) 1 (λ j k. getD values j 0) set (λ k. f) i)
-  agrees-at i r h e =
-      e
-      ∙ ap (λ (x : ℕ). toℕ (has set i && eqb (value f x) (getD values i 0))) (add-one i ∙ sym (own-point t i h))
-      ∙ ap (λ (b : Bool). toℕ (has set i && b)) (sym (all-one (λ k. eqb (value f (getD (ownPoints t) i 0)) (getD values i 0))))
+-- what has been counted of the members before i
+pub record Agreed (xs : List ℕ) (t : ℕ) (values : List ℕ) (set : ℕ) (f : List ℕ) (m i : ℕ) : Type 0 where
+  pub at-most : m ≤ i
+  pub counted : Counted (agrees xs 1 (λ j k. getD values j 0) set (λ k. f)) (size t) m i
 
-  pub agree-last : (m i : ℕ) → size t ≤ i → Counted (agrees (ownPoints t) 1 (λ j k. getD values j 0) set (λ k. f)) (size t) m i
-      → m ≡ card (size t) (agreeing (ownPoints t) t 1 (λ j k. getD values j 0) set (λ k. f))
-  agree-last m i h c =
-      let e : i ≡ size t = omega (arith, c .inside) in
-      c .so-far ∙ ap (λ (k : ℕ). count k (agrees (ownPoints t) 1 (λ j k. getD values j 0) set (λ k. f))) e
-      ∙ sym (card-agreeing (ownPoints t) t 1 (λ j k. getD values j 0) set (λ k. f))
+module _ {xs : List ℕ} {t : ℕ} {values : List ℕ} {set : ℕ} {f : List ℕ} where
+  pub agree-first : Agreed xs t values set f 0 0
+  agree-first = record { at-most = zero-le; counted = counted-first _ _ }
+
+  pub agree-next : {m i r : ℕ} → Agreed xs t values set f m i → i < length values → length values ≡ size t
+      → r ≡ toℕ (has set i && eqb (value f (getD xs i 0)) (getD values i 0)) → Agreed xs t values set f (m + r) (i + 1)
+  agree-next {m} {i} {r} a h long e =
+      let same : r ≡ toℕ (agrees xs 1 (λ j k. getD values j 0) set (λ k. f) i) =
+      e ∙ ap (λ (b : Bool). toℕ (has set i && b)) (sym (all-one (λ k. eqb (value f (getD xs i 0)) (getD values i 0)))) in
+      record {
+        at-most = omega (arith, a .at-most, at-most-one r (has set i && eqb (value f (getD xs i 0)) (getD values i 0)) e);
+        counted = counted-next _ (size t) m i r (omega arith) (a .counted) same;
+      }
+
+  pub agree-last : {m i : ℕ} → Agreed xs t values set f m i → length values ≤ i → length values ≡ size t
+      → m ≡ card (size t) (agreeing xs t 1 (λ j k. getD values j 0) set (λ k. f))
+  agree-last {m} {i} a h long =
+      let e : i ≡ size t = omega (arith, a .counted .inside) in
+      a .counted .so-far
+      ∙ ap (λ (k : ℕ). count k (agrees xs 1 (λ j k. getD values j 0) set (λ k. f))) e
+      ∙ sym (card-agreeing xs t 1 (λ j k. getD values j 0) set (λ k. f))
 
 -- ---- what is gathered
 
@@ -136,38 +145,31 @@ stored f p l m i a r h e ea er =
     ∙ ap (λ (k : ℕ). map f (passing k p)) (sym (add-one i))
 
 -- what has been gathered from the members before i
-pub record Gathering (t : ℕ) (values : List ℕ) (set : ℕ) (e points kept : List ℕ) (m i : ℕ) : Type 0 where
-  pub counted : Counted (sound (ownPoints t) set e) (size t) m i
+pub record Gathering (xs : List ℕ) (t : ℕ) (values : List ℕ) (set : ℕ) (e points kept : List ℕ) (m i : ℕ) : Type 0 where
+  pub counted : Counted (sound xs set e) (size t) m i
   pub at-most : m ≤ suc t
   pub long-points : length points ≡ 16
   pub long-kept : length kept ≡ suc t
-  pub points-are : take m points ≡ map (λ k. getD (ownPoints t) k 0) (passing i (sound (ownPoints t) set e))
-  pub kept-are : take m kept ≡ map (λ k. getD values k 0) (passing i (sound (ownPoints t) set e))
+  pub points-are : take m points ≡ map (λ k. getD xs k 0) (passing i (sound xs set e))
+  pub kept-are : take m kept ≡ map (λ k. getD values k 0) (passing i (sound xs set e))
 
-module _ (t : ℕ) (values : List ℕ) (set : ℕ) (e : List ℕ) (small : t ≤ 15) where
-  pub gathering-first : (points kept : List ℕ) → length points ≡ 16 → length kept ≡ suc t → Gathering t values set e points kept 0 0
+module _ (xs : List ℕ) (t : ℕ) (values : List ℕ) (set : ℕ) (e points kept : List ℕ) where
+  pub gathering-first : length points ≡ 16 → length kept ≡ suc t → Gathering xs t values set e points kept 0 0
   unfolding passing tab keep
-  gathering-first points kept hp hk =
+  gathering-first hp hk =
       record { counted = counted-first _ _; at-most = zero-le; long-points = hp; long-kept = hk; points-are = refl; kept-are = refl }
 
-  sound-at : (i r : ℕ) → i < size t → r ≡ toℕ (has set i && not (eqb (value e (i + 1)) 0)) → r ≡ toℕ (sound (ownPoints t) set e i)
-  unfolding sound
-  sound-at i r h q = q ∙ ap (λ (x : ℕ). toℕ (has set i && not (eqb (value e x) 0))) (add-one i ∙ sym (own-point t i h))
-
-  pub gathering-next : (points kept : List ℕ) (m i r : ℕ) → i < size t → m ≤ t → Gathering t values set e points kept m i
-      → r ≡ toℕ (has set i && not (eqb (value e (i + 1)) 0))
-      → Gathering t values set e (store points m (i + 1)) (store kept m (getD values i 0)) (m + r) (i + 1)
-  gathering-next points kept m i r h l g q =
-      let p : ℕ → Bool = sound (ownPoints t) set e in
-      let q′ : r ≡ toℕ (p i) = sound-at i r h q in
+  pub gathering-next : {m i r : ℕ} → Gathering xs t values set e points kept m i → t ≤ 15 → m ≤ t → i < length values → length values ≡ size t
+      → r ≡ toℕ (sound xs set e i) → Gathering xs t values set e (store points m (getD xs i 0)) (store kept m (getD values i 0)) (m + r) (i + 1)
+  gathering-next {m} {i} {r} g small l h long q =
+      let p : ℕ → Bool = sound xs set e in
       record {
-        counted = counted-next p (size t) m i r h (g .counted) q′;
-        at-most = omega (arith, toℕ-le (p i));
-        long-points = length-set points m (i + 1) ∙ g .long-points;
+        counted = counted-next p (size t) m i r (omega arith) (g .counted) q;
+        at-most = omega (arith, at-most-one r (p i) q);
+        long-points = length-set points m (getD xs i 0) ∙ g .long-points;
         long-kept = length-set kept m (getD values i 0) ∙ g .long-kept;
-        points-are =
-            stored (λ k. getD (ownPoints t) k 0) p points m i (i + 1) r (omega (arith, g .long-points)) (g .points-are) (add-one i ∙ sym (own-point t i h)) q′;
-        kept-are = stored (λ k. getD values k 0) p kept m i (getD values i 0) r (omega (arith, g .long-kept)) (g .kept-are) refl q′;
+        points-are = stored (λ k. getD xs k 0) p points m i (getD xs i 0) r (omega (arith, g .long-points)) (g .points-are) refl q;
+        kept-are = stored (λ k. getD values k 0) p kept m i (getD values i 0) r (omega (arith, g .long-kept)) (g .kept-are) refl q;
       }
 
 -- those of the first i, where t + 1 of these have passed, are the first t + 1 of all
@@ -189,23 +191,33 @@ module _ (n : ℕ) (p : ℕ → Bool) (i k : ℕ) (inside : i ≤ n) (many : cou
       let e : length (passing n p) ≡ length (passing i p) + length (whole .0) = ap length (whole .1) ∙ length-append (passing i p) (whole .0) in
       omega (arith, e, long, length-passing n p)
 
-module _ (t : ℕ) (values : List ℕ) (set : ℕ) (e : List ℕ) where
-  pub gathered : (points kept : List ℕ) (m i : ℕ) → (t < m) ⊎ (size t ≤ i) → Gathering t values set e points kept m i
-      → Gathered (ownPoints t) t (λ k. getD values k 0) set e points kept m
+module _ (xs : List ℕ) (t : ℕ) (values : List ℕ) (set : ℕ) (e points kept : List ℕ) {m i : ℕ} (g : Gathering xs t values set e points kept m i) where
+  gathered : (m ≤ t → size t ≤ i) → Gathered xs t values set e points kept m
   unfolding chosen passing
-  gathered points kept m i o g =
-      let p : ℕ → Bool = sound (ownPoints t) set e in
+  gathered all-seen =
+      let p : ℕ → Bool = sound xs set e in
       let full : t < m → m ≡ suc t = λ l. omega (arith, g .at-most) in
       let many : t < m → count i p ≡ suc t = λ l. sym (g .counted .so-far) ∙ full l in
-      let ones : t < m → passing i p ≡ chosen (ownPoints t) t set e = λ l. first-ones (size t) p i (suc t) (g .counted .inside) (many l) in
+      let ones : t < m → passing i p ≡ chosen xs t set e = λ l. first-ones (size t) p i (suc t) (g .counted .inside) (many l) in
       record {
         enough = λ l. many-of (size t) p i (suc t) (g .counted .inside) (many l);
-        points-are = λ l. ap (λ (k : ℕ). take k points) (sym (full l)) ∙ g .points-are ∙ ap (map (λ k. getD (ownPoints t) k 0)) (ones l);
+        points-are = λ l. ap (λ (k : ℕ). take k points) (sym (full l)) ∙ g .points-are ∙ ap (map (λ k. getD xs k 0)) (ones l);
         values-are = λ l. sym (take-all m kept (le-of-eq (g .long-kept ∙ sym (full l)))) ∙ g .kept-are ∙ ap (map (λ k. getD values k 0)) (ones l);
-        few = λ l. elim o [
-          | inl k ↦ absurd (not-le-of-lt k l)
-          | inr k ↦
-              let e : i ≡ size t = omega (arith, g .counted .inside) in
-              omega (arith, g .counted .so-far, ap (λ (j : ℕ). count j p) e)
-        ];
+        few = λ l.
+            let all-n : i ≡ size t = omega (arith, g .counted .inside, all-seen l) in
+            omega (arith, g .counted .so-far, ap (λ (j : ℕ). count j p) all-n);
+        room = g .long-points;
+        long = g .long-kept;
       }
+
+  -- at the first t + 1, or at the end
+  pub gathered-full : t < m → Gathered xs t values set e points kept m
+  gathered-full h = gathered (λ l. absurd (not-le-of-lt h l))
+
+  pub gathered-all : length values ≤ i → length values ≡ size t → Gathered xs t values set e points kept m
+  gathered-all h long = gathered (λ l. omega arith)
+
+-- the part of the buffer that is lent
+pub chosen-part : {xs : List ℕ} {t : ℕ} {values : List ℕ} {set : ℕ} {e points kept : List ℕ} {m : ℕ} → Gathered xs t values set e points kept m → t ≤ 15
+    → t + 1 ≡ length (take (t + 1) points)
+chosen-part {t = t} {points = points} G small = sym (length-take-le (t + 1) points (omega (arith, G .room)))

@@ -24,7 +24,7 @@ use Rattle.members.specs.Members.{size, has, card}
 use Rattle.members.proofs.Masks.{card-setOf, setOf-ext}
 use Rattle.members.proofs.Listed.{passing, passing-sub, passing-every, length-passing}
 use Rattle.decoding.specs.Decoding.{surplus, need, agreeing, Fits}
-use Rattle.decoding.proofs.Points.{pointsOf, distinct-points}
+use Rattle.locator.proofs.Points.{pointsOf, distinct-points}
 
 -- two sets of enough members, of a set of s, share t + 1
 pub need-twice : (t s : ℕ) → suc t + s ≤ need t s + need t s
@@ -75,7 +75,8 @@ both-agree : (xs : List ℕ) (t d : ℕ) (y : ℕ → ℕ → ℕ) (set : ℕ) (
     → suc t ≤ count (size t) (λ i. agrees xs d y set f i && agrees xs d y set g i)
 unfolding card
 both-agree xs t d y set f g F G =
-    shared (count (size t) (has set)) (count (size t) (λ i. agrees xs d y set f i && agrees xs d y set g i)) (need-twice t (card (size t) set)) (le-trans (F .enough) (le-of-eq (card-agreeing xs t d y set f))) (le-trans (G .enough) (le-of-eq (card-agreeing xs t d y set g)))
+    shared (count (size t) (has set)) (count (size t) (λ i. agrees xs d y set f i && agrees xs d y set g i)) (need-twice t (card (size t) set))
+    (le-trans (F .enough) (le-of-eq (card-agreeing xs t d y set f))) (le-trans (G .enough) (le-of-eq (card-agreeing xs t d y set g)))
     (count-common (size t) (agrees xs d y set f) (agrees xs d y set g) (has set) (λ i h. agrees-member xs d y set f i) (λ i h. agrees-member xs d y set g i))
   where
     shared : (s c : ℕ) {m a b : ℕ} → suc t + s ≤ m + m → m ≤ a → m ≤ b → a + b ≤ s + c → suc t ≤ c

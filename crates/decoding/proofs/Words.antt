@@ -18,7 +18,7 @@ use Rattle.lists.proofs.Count.{count-mono}
 use Rattle.field.proofs.Congruence.{_≈_}
 use Rattle.polynomial.specs.Polynomial.{eval, value}
 use Rattle.polynomial.proofs.Roots.{Distinct}
-use Rattle.members.specs.Members.{size, has, card}
+use Rattle.members.specs.Members.{size, card}
 use Rattle.decoding.specs.Decoding.{need, agreeing, Fits, nth, find}
 use Rattle.decoding.proofs.Unique.{agrees, agrees-member, agrees-word, card-agreeing, agreeing-same, fits-same}
 use Rattle.decoding.proofs.Search.{Found, find-found, find-none, none-fits, find-is}

@@ -54,9 +54,13 @@ pub record Decoded : Type 0 where
 unfoldable pub undecoded : ℕ → ℕ → Decoded
 undecoded len k = record { number = k; coefficients = replicate len 65535 }
 
+-- a polynomial that is found
+abbrev pub found : List ℕ → Decoded
+found f = record { number = 0; coefficients = f }
+
 unfoldable pub decodedFrom : ℕ → Option (List (List ℕ)) → Decoded
 decodedFrom len none = undecoded len 16
-decodedFrom len (some fs) = record { number = 0; coefficients = nth fs 0 }
+decodedFrom len (some fs) = found (nth fs 0)
 
 -- the buffer has len words
 unfoldable pub decode : ℕ → List ℕ → ℕ → ℕ → Decoded

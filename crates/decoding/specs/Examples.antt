@@ -5,10 +5,7 @@ use mathlib.Core.Option.{none}
 use mathlib.Core.List.{List, [], _∷_}
 use lib.ListN.{getD}
 use Rattle.members.specs.Members.{ownPoints}
-use Rattle.decoding.specs.Decoding.{Decoded, need, find, undecoded, decode}
-
-abbrev pub found : List ℕ → Decoded
-found cs = record { number = 0; coefficients = cs }
+use Rattle.decoding.specs.Decoding.{need, find, found, undecoded, decode}
 
 -- a word of member i at place k, from a list of words for each place
 abbrev pub fromLists : List (List ℕ) → ℕ → ℕ → ℕ

@@ -1,22 +1,17 @@
--- `decoding::field_word` meets its contract.
+-- A member outside the set passes, and one in it by its value.
 -- Assumes nothing.
-use mathlib.Core.Path.{_∙_}
 use borrow.Author.Needs.{needs}
 use Rattle.decoding.proofs.Turns.{not-judged, judged}
 use Rattle.decoding.proofs.field_word.Statement.{statement}
 use Rattle.decoding.proofs.field_word.Tie as tie
 
-has-requires : tie.Need-has-requires
-has-requires c κs = search needs
-
-returns : tie.Need-returns
-returns c = not-judged _ _ _ (c .before .has .ensures) (c .if1 .taken)
-
-is-field-word-requires : tie.Need-is-field-word-requires
-is-field-word-requires c κs = search needs
-
-returns-2 : tie.Need-returns-2
-returns-2 c = c .is-field-word .ensures ∙ judged _ _ _ (c .before .before .has .ensures) (c .before .if1 .left)
-
 pub field-word-spec : {M : Type 1} → statement M
-field-word-spec = tie.close (tie.spec has-requires returns is-field-word-requires returns-2)
+field-word-spec =
+    tie.close
+    (tie.spec
+    (λ c κs. search needs)
+    (λ c. search not-judged)
+    (λ c κs. search needs)
+    (λ c.
+    let (at-has, at-if1) : tie.After-has × tie.Else1 = (search, search) in
+    search (judged, at-has .has .ensures, at-if1 .if1 .left, c .is-field-word .ensures)))

@@ -1,4 +1,4 @@
--- `decoding::need` meets its contract.
+-- Below t + 1 members there is no surplus, and else half of it is rounded up as the definition does.
 -- Assumes nothing.
 use native.Mathlib.Omega.{arith}
 use borrow.Author.Needs.{needs}
@@ -6,22 +6,6 @@ use Rattle.decoding.specs.Decoding.{surplus, need}
 use Rattle.decoding.proofs.need.Statement.{statement}
 use Rattle.decoding.proofs.need.Tie as tie
 
-add-least : tie.Need-add-least
-add-least c = search needs
-
-returns : tie.Need-returns
-unfolding need surplus
-returns c = omega arith
-
-add-result : tie.Need-add-result
-add-result c = search needs
-
-add-result-2 : tie.Need-add-result-2
-add-result-2 c = search needs
-
-returns-2 : tie.Need-returns-2
-unfolding need surplus
-returns-2 c = omega arith
-
 pub need-spec : {M : Type 1} → statement M
-need-spec = tie.close (tie.spec add-least returns add-result add-result-2 returns-2)
+unfolding need surplus
+need-spec = tie.close (tie.spec (λ c. search needs) (λ c. omega arith) (λ c. search needs) (λ c. search needs) (λ c. omega arith))

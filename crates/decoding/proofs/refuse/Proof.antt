@@ -1,4 +1,4 @@
--- `decoding::refuse` meets its contract.
+-- The buffer is filled with the word that the definition fills it with.
 -- Assumes nothing.
 use mathlib.Core.Path.{_≡_, ap}
 use mathlib.Core.List.{List}
@@ -6,7 +6,6 @@ use Prim.Native.Nat.{ℕ}
 use borrow.Author.Needs.{needs}
 use lib.ListN.{replicate}
 use Rattle.decoding.specs.Decoding.{Decoded, undecoded}
-use borrow.Author.Needs.{needs}
 use Rattle.decoding.proofs.refuse.Statement.{statement}
 use Rattle.decoding.proofs.refuse.Tie as tie
 
@@ -14,14 +13,5 @@ filled : (number len : ℕ) (l : List ℕ) → l ≡ replicate len 65535 → (le
 unfolding undecoded
 filled number len l e = ap (λ (b : List ℕ). let d : Decoded = record { number = number; coefficients = b } in d) e
 
-fill-requires : tie.Need-fill-requires
-fill-requires c κs = search needs
-
-same-length : tie.Need-same-length
-same-length c = search needs
-
-returns : tie.Need-returns
-returns c = filled _ _ _ (c .before .before .fill .ensures)
-
 pub refuse-spec : {M : Type 1} → statement M
-refuse-spec = tie.close (tie.spec fill-requires same-length returns)
+refuse-spec = tie.close (tie.spec (λ c κs. search needs) (λ c. search needs) (λ c. search filled))

@@ -1,28 +1,16 @@
--- `decoding::solve` meets its contract.
+-- A right guess is the answer, and else it is worked out in full.
 -- Assumes nothing.
 use borrow.Author.Needs.{needs}
 use Rattle.decoding.proofs.solve.Statement.{statement}
 use Rattle.decoding.proofs.solve.Tie as tie
 
-guessed-requires : tie.Need-guessed-requires
-guessed-requires c κs = search needs
-
-same-length : tie.Need-same-length
-same-length c = search needs
-
-returns : tie.Need-returns
-returns c = c .before .before .before .guessed .ensures .answer (c .if1 .taken)
-
-solve-in-full-requires : tie.Need-solve-in-full-requires
-solve-in-full-requires c κs = search needs
-
-same-length-2 : tie.Need-same-length-2
-same-length-2 c = search needs
-
-returns-2 : tie.Need-returns-2
-returns-2 c = search needs
-
 pub solve-spec : {M : Type 1} → statement M
 solve-spec =
     tie.close
-    (tie.spec guessed-requires same-length returns solve-in-full-requires same-length-2 returns-2)
+    (tie.spec
+    (λ c κs. search needs)
+    (λ c. search needs)
+    (λ c. let at-guessed : tie.After-guessed = search in search (at-guessed .guessed .ensures .answer, c .if1 .taken, needs))
+    (λ c κs. search needs)
+    (λ c. search needs)
+    (λ c. search needs))
