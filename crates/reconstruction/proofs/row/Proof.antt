@@ -6,6 +6,7 @@ use native.Mathlib.Omega.{arith}
 use borrow.Author.Tests.{not-true, not-false}
 use Rattle.reconstruction.specs.Votes.{accepts}
 use Rattle.reconstruction.proofs.Voting.{empty-row, Taken, taken-first, taken-next, taken-last}
+use borrow.Author.Needs.{needs}
 use Rattle.reconstruction.proofs.row.Statement.{statement}
 use Rattle.reconstruction.proofs.row.Tie as tie
 
@@ -15,29 +16,15 @@ Inv-loop t d n width able shares i set₀ j₀ set j = Taken (λ k. accepts t d 
 abbrev μ-loop : tie.MeasureT-loop
 μ-loop t d n width able shares i set₀ j₀ set j = n - j
 
-has-requires : tie.Need-has-requires Inv-loop μ-loop
-has-requires c κs = tt
-
 returns : tie.Need-returns Inv-loop μ-loop
-returns c = empty-row _ _ _ _ _ (sym (c .before .has .ensures) ∙ not-true _ (c .if1 .taken))
-
-loop-holds : tie.Need-loop-holds Inv-loop μ-loop
-loop-holds c = taken-first _ _
+returns c =
+    let at-has : tie.After-has Inv-loop μ-loop = search in
+    empty-row _ _ _ _ _ (sym (at-has .has .ensures) ∙ not-true _ (c .if1 .taken))
 
 vote-requires : tie.Need-vote-requires Inv-loop μ-loop
-vote-requires c κs = (c .before .before .before .before .before .pre .0, (c .before .before .before .before .before .pre .1, c .loop-test .taken, sym (c .before .before .before .has .ensures) ∙ not-false _ (c .before .before .if1 .left)))
-
-add-j : tie.Need-add-j Inv-loop μ-loop
-add-j c = omega arith
-
-loop-less : tie.Need-loop-less Inv-loop μ-loop
-loop-less c = omega arith
-
-loop-again : tie.Need-loop-again Inv-loop μ-loop
-loop-again c = taken-next _ _ _ _ _ (c .before .loop-test .taken) (c .before .before .before .before .before .before .pre .0 .few) (c .before .before .loop .inv) (c .vote .ensures)
-
-returns-2 : tie.Need-returns-2 Inv-loop μ-loop
-returns-2 c = taken-last _ _ _ _ _ (c .loop-test .left) (c .before .before .before .before .before .pre .0 .members) (c .before .loop .inv)
+vote-requires c κs =
+    let (at-has, at-if1) : tie.After-has Inv-loop μ-loop × tie.Else1 Inv-loop μ-loop = (search, search) in
+    (search needs, (search needs, search needs, sym (at-has .has .ensures) ∙ not-false _ (at-if1 .if1 .left)))
 
 pub row-spec : {M : Type 1} → statement M
 row-spec =
@@ -45,11 +32,11 @@ row-spec =
     (tie.spec
     Inv-loop
     μ-loop
-    has-requires
+    (λ c κs. tt)
     returns
-    loop-holds
+    (λ c. taken-first _ _)
     vote-requires
-    add-j
-    loop-less
-    loop-again
-    returns-2)
+    (λ c. omega arith)
+    (λ c. omega arith)
+    (λ c. search taken-next)
+    (λ c. search taken-last))

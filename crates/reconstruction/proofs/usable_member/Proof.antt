@@ -9,55 +9,24 @@ use borrow.Author.Needs.{needs}
 use Rattle.reconstruction.proofs.usable_member.Statement.{statement}
 use Rattle.reconstruction.proofs.usable_member.Tie as tie
 
-has-requires : tie.Need-has-requires
-has-requires c κs = search needs
-
-returns : tie.Need-returns
-returns c = first-fails _ _ _ _ _ (c .before .has .ensures) (not-true _ (c .if1 .taken))
-
-mul-at : tie.Need-mul-at
-mul-at c = omega (arith, share-inside _ _ _ _ _ (c .before .before .before .pre .0) (c .before .before .before .args .i) (c .before .before .before .pre .1))
-
-add-are-field-words : tie.Need-add-are-field-words
-add-are-field-words c = omega (arith, share-inside _ _ _ _ _ (c .before .before .before .pre .0) (c .before .before .before .args .i) (c .before .before .before .pre .1))
-
-mul-are-field-words : tie.Need-mul-are-field-words
-mul-are-field-words c = omega (arith, share-inside _ _ _ _ _ (c .before .before .before .pre .0) (c .before .before .before .args .i) (c .before .before .before .pre .1))
-
-sub-are-field-words : tie.Need-sub-are-field-words
-sub-are-field-words c = search needs
-
-part-are-field-words-start : tie.Need-part-are-field-words-start
-part-are-field-words-start c = search needs
-
-part-are-field-words-end : tie.Need-part-are-field-words-end
-part-are-field-words-end c = omega (arith, share-inside _ _ _ _ _ (c .before .before .before .pre .0) (c .before .before .before .args .i) (c .before .before .before .pre .1))
-
-are-field-words-requires : tie.Need-are-field-words-requires
-are-field-words-requires c κs = search needs
-
-returns-2 : tie.Need-returns-2
-returns-2 c = second-fails _ _ _ _ _ (c .before .before .before .before .has .ensures) _ (not-false _ (c .before .before .before .if1 .left)) (field-share-at _ _ _ _ _ (c .before .before .before .before .before .before .pre .0) _ _ _ (c .before .before .before .before .before .before .pre .1) refl (c .before .are-field-words .ensures)) (not-true _ (c .if2 .taken))
-
-with-requires : tie.Need-with-requires
-with-requires c κs = search needs
-
 returns-3 : tie.Need-returns-3
-returns-3 c = c .with .ensures ∙ both-pass _ _ _ _ _ (c .before .before .before .before .before .has .ensures) _ (not-false _ (c .before .before .before .before .if1 .left)) (field-share-at _ _ _ _ _ (c .before .before .before .before .before .before .before .pre .0) _ _ _ (c .before .before .before .before .before .before .before .pre .1) refl (c .before .before .are-field-words .ensures)) (not-false _ (c .before .if2 .left))
+returns-3 c =
+    let (entry, at-has, at-if1, at-are-field-words, at-if2) : tie.Start × tie.After-has × tie.Else1 × tie.After-are-field-words × tie.Else2 = (search, search, search, search, search) in
+    c .with .ensures ∙ both-pass _ _ _ _ _ (at-has .has .ensures) _ (not-false _ (at-if1 .if1 .left)) (field-share-at _ _ _ _ _ (entry .pre .0) _ _ _ (entry .pre .1) refl (at-are-field-words .are-field-words .ensures)) (not-false _ (at-if2 .if2 .left))
 
 pub usable-member-spec : {M : Type 1} → statement M
 usable-member-spec =
     tie.close
     (tie.spec
-    has-requires
-    returns
-    mul-at
-    add-are-field-words
-    mul-are-field-words
-    sub-are-field-words
-    part-are-field-words-start
-    part-are-field-words-end
-    are-field-words-requires
-    returns-2
-    with-requires
+    (λ c κs. search needs)
+    (λ c. search (not-true, first-fails))
+    (λ c. let entry : tie.Start = search in omega (arith, share-inside _ _ _ _ _ (entry .pre .0) (entry .args .i) (entry .pre .1)))
+    (λ c. let entry : tie.Start = search in omega (arith, share-inside _ _ _ _ _ (entry .pre .0) (entry .args .i) (entry .pre .1)))
+    (λ c. let entry : tie.Start = search in omega (arith, share-inside _ _ _ _ _ (entry .pre .0) (entry .args .i) (entry .pre .1)))
+    (λ c. search needs)
+    (λ c. search needs)
+    (λ c. search share-inside)
+    (λ c κs. search needs)
+    (λ c. search (not-true, not-false, field-share-at, second-fails))
+    (λ c κs. search needs)
     returns-3)

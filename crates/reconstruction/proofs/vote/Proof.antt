@@ -1,31 +1,23 @@
 -- `reconstruction::vote` meets its contract.
 -- Assumes nothing.
-use mathlib.Core.Path.{_∙_}
-use native.Mathlib.Omega.{arith}
 use borrow.Author.Tests.{not-true, not-false}
 use Rattle.reconstruction.proofs.Voting.{by-tests, first-fails, second-fails, both-pass}
 use borrow.Author.Needs.{needs}
 use Rattle.reconstruction.proofs.vote.Statement.{statement}
 use Rattle.reconstruction.proofs.vote.Tie as tie
 
-has-requires : tie.Need-has-requires
-has-requires c κs = search needs
-
-returns : tie.Need-returns
-returns c = by-tests _ _ _ _ _ _ _ _ (c .before .before .before .pre .1 .2) (first-fails _ _ _ _ _ (c .before .has .ensures) (not-true _ (c .if1 .taken)))
-
-accepted-requires : tie.Need-accepted-requires
-accepted-requires c κs = (c .before .before .before .pre .0, omega (arith, c .before .before .before .pre .1))
-
-returns-2 : tie.Need-returns-2
-returns-2 c = by-tests _ _ _ _ _ _ _ _ (c .before .before .before .before .before .pre .1 .2) (second-fails _ _ _ _ _ (c .before .before .before .has .ensures) _ (not-false _ (c .before .before .if1 .left)) (c .before .accepted .ensures) (not-true _ (c .if2 .taken)))
-
-with-requires : tie.Need-with-requires
-with-requires c κs = search needs
-
 returns-3 : tie.Need-returns-3
-returns-3 c = by-tests _ _ _ _ _ _ _ _ (c .before .before .before .before .before .before .pre .1 .2) (c .with .ensures ∙ both-pass _ _ _ _ _ (c .before .before .before .before .has .ensures) _ (not-false _ (c .before .before .before .if1 .left)) (c .before .before .accepted .ensures) (not-false _ (c .before .if2 .left)))
+returns-3 c =
+    let (entry, at-has, at-if1, at-accepted, at-if2) : tie.Start × tie.After-has × tie.Else1 × tie.After-accepted × tie.Else2 = (search, search, search, search, search) in
+    search (not-false, by-tests, both-pass, entry .pre .1 .2, at-has .has .ensures, at-if1 .if1 .left, at-accepted .accepted .ensures, at-if2 .if2 .left, c .with .ensures)
 
 pub vote-spec : {M : Type 1} → statement M
 vote-spec =
-    tie.close (tie.spec has-requires returns accepted-requires returns-2 with-requires returns-3)
+    tie.close
+    (tie.spec
+    (λ c κs. search needs)
+    (λ c. search (not-true, by-tests, first-fails))
+    (λ c κs. (search needs, search needs))
+    (λ c. search (not-true, not-false, by-tests, second-fails))
+    (λ c κs. search needs)
+    returns-3)
