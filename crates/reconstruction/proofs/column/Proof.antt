@@ -1,45 +1,26 @@
--- `reconstruction::column` meets its contract.
+-- `reconstruction::column`: the values below i are the members' words at place k.
 -- Assumes nothing.
-use mathlib.Core.Path.{refl}
 use Prim.Native.Nat.{_-_}
 use native.Mathlib.Omega.{arith}
-use Rattle.lists.proofs.Tables.{Filled, filled-first, filled-next, filled-last}
-use Rattle.shares.specs.Layout.{word}
-use Rattle.reconstruction.proofs.Places.{place, word-at}
 use borrow.Author.Needs.{needs}
+use Rattle.lists.proofs.Tables.{Filled, filled-first, filled-next, filled-last}
+use Rattle.shares.specs.Layout.{shareWord}
+use Rattle.shares.proofs.Reading.{share-word-at}
 use Rattle.reconstruction.proofs.column.Statement.{statement}
 use Rattle.reconstruction.proofs.column.Tie as tie
 
 abbrev Inv-loop : tie.InvT-loop
-Inv-loop t d n width shares k values₀ i₀ values i = Filled (λ m. word t d shares m k) n values i
+Inv-loop s shares k values₀ i₀ values i = Filled (λ m. shareWord (s .t) (s .d) shares m k) (s .n) values i
 
 abbrev μ-loop : tie.MeasureT-loop
-μ-loop t d n width shares k values₀ i₀ values i = n - i
+μ-loop s shares k values₀ i₀ values i = s .n - i
 
-mul-values : tie.Need-mul-values Inv-loop μ-loop
-mul-values c =
-    let (entry, at-loop) : tie.Start Inv-loop μ-loop × tie.At-loop Inv-loop μ-loop = (search, search) in
-    omega (arith, place _ _ _ _ _ (entry .pre .0) (at-loop .loop .i) (entry .args .k) (omega arith) (omega arith))
+-- the places of the code that the answers below name
+abbrev Start : Type 0
+Start = tie.Start Inv-loop μ-loop
 
-add-values : tie.Need-add-values Inv-loop μ-loop
-add-values c =
-    let (entry, at-loop) : tie.Start Inv-loop μ-loop × tie.At-loop Inv-loop μ-loop = (search, search) in
-    omega (arith, place _ _ _ _ _ (entry .pre .0) (at-loop .loop .i) (entry .args .k) (omega arith) (omega arith))
-
-mul-values-2 : tie.Need-mul-values-2 Inv-loop μ-loop
-mul-values-2 c =
-    let (entry, at-loop) : tie.Start Inv-loop μ-loop × tie.At-loop Inv-loop μ-loop = (search, search) in
-    omega (arith, place _ _ _ _ _ (entry .pre .0) (at-loop .loop .i) (entry .args .k) (omega arith) (omega arith))
-
-shared-slice-read-values : tie.Need-shared-slice-read-values Inv-loop μ-loop
-shared-slice-read-values c =
-    let (entry, at-loop) : tie.Start Inv-loop μ-loop × tie.At-loop Inv-loop μ-loop = (search, search) in
-    place _ _ _ _ _ (entry .pre .0) (at-loop .loop .i) (entry .args .k) (omega arith) (omega arith)
-
-loop-again : tie.Need-loop-again Inv-loop μ-loop
-loop-again c =
-    let (entry, at-loop) : tie.Start Inv-loop μ-loop × tie.At-loop Inv-loop μ-loop = (search, search) in
-    filled-next _ _ _ _ _ (omega arith) (at-loop .loop .inv) (word-at _ _ _ _ _ (entry .pre .0) _ _ _ refl)
+abbrev Loop : Type 0
+Loop = tie.At-loop Inv-loop μ-loop
 
 pub column-spec : {M : Type 1} → statement M
 column-spec =
@@ -48,14 +29,18 @@ column-spec =
     Inv-loop
     μ-loop
     (λ c. search filled-first)
-    mul-values
-    add-values
-    mul-values-2
-    shared-slice-read-values
+    -- let at = shares::word_at(s, i, k)
+    (λ c κs. (search needs, (omega arith, search needs)))
+    -- values[i] = shares[at]
+    (λ c. omega arith)
+    (λ c. omega arith)
     (λ c. omega arith)
     (λ c. search needs)
+    -- i = i + 1
     (λ c. omega arith)
     (λ c. omega arith)
-    loop-again
+    (λ c.
+    let (start, loop, placed) : Start × Loop × tie.After-word-at Inv-loop μ-loop = (search, search, search) in
+    filled-next _ _ _ _ _ (omega arith) (loop .loop .inv) (share-word-at _ _ (start .pre .0) _ _ _ (placed .word-at .ensures)))
     (λ c. omega arith)
-    (λ c. let at-loop : tie.At-loop Inv-loop μ-loop = search in filled-last _ _ _ _ (omega arith) (at-loop .loop .inv)))
+    (λ c. let loop : Loop = search in filled-last _ _ _ _ (omega arith) (loop .loop .inv)))

@@ -1,7 +1,7 @@
--- `reconstruction::refuse` meets its contract.
+-- `reconstruction::refuse`: `lists::fill` has written 65535 into every word.
 -- Assumes nothing.
-use Rattle.reconstruction.proofs.Opening.{refused-so}
 use borrow.Author.Needs.{needs}
+use Rattle.reconstruction.proofs.Opening.{refused-so}
 use Rattle.reconstruction.proofs.refuse.Statement.{statement}
 use Rattle.reconstruction.proofs.refuse.Tie as tie
 
