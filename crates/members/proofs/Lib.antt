@@ -3,4 +3,5 @@ pub mod Examples
 pub mod Listed
 pub mod Masks
 pub mod Points
+pub mod Taken
 pub mod Words

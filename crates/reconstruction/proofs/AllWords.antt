@@ -15,26 +15,26 @@ use lib.Seq.{take-suc-set, take-all}
 use borrow.Author.Tests.{le-leb}
 use Rattle.lists.specs.Tabulate.{tab, all}
 use Rattle.lists.proofs.Blocks.{tab-more}
-use Rattle.lists.proofs.Checks.{within-high}
 use Rattle.lists.proofs.Tabulate.{tab-ext, getD-tab, all-last}
 use Rattle.field.proofs.Congruence.{same-eq}
 use Rattle.polynomial.specs.Polynomial.{eval, value}
 use Rattle.polynomial.proofs.Roots.{Distinct}
 use Rattle.members.specs.Members.{size, ownPoints, has, setOf, card}
 use Rattle.members.proofs.Masks.{has-setOf, setOf-lt, setOf-ext, setOf-has, card-setOf}
-use Rattle.shares.specs.Layout.{word}
+use Rattle.members.proofs.Points.{length-own}
+use Rattle.members.proofs.Words.{card-32}
+use Rattle.shares.specs.Layout.{shareWord}
+use Rattle.shares.specs.Internal.Shape.{Room}
+use Rattle.shares.specs.declared.Shape.{Shape}
 use Rattle.decoding.specs.declared.Outcome.{Outcome}
 use Rattle.decoding.specs.declared.Outcome.the-variants.{Refused}
 use Rattle.decoding.specs.Answer.{answerOf}
 use Rattle.decoding.specs.Decoding.{surplus, need, agreeing, nth, find, decode}
-use Rattle.members.proofs.Words.{card-32}
 use Rattle.decoding.proofs.Apart.{too-few}
 use Rattle.decoding.proofs.Points.{own-distinct}
-use Rattle.members.proofs.Points.{length-own}
 use Rattle.decoding.proofs.Unique.{agreeing-same}
 use Rattle.decoding.proofs.Words.{wordAt, no-word, by-words}
 use Rattle.reconstruction.specs.Reconstruction.{Opened, unopened, atZero, openedFrom}
-use Rattle.reconstruction.specs.Internal.Room.{Room}
 use Rattle.reconstruction.specs.Internal.Steps.{Decodable}
 use Rattle.reconstruction.proofs.ByWord.{Turned, word-refused}
 
@@ -152,48 +152,65 @@ unfolding openedFrom
 nothing xs t d y s none-found answer len el e = e ∙ ap (λ (m : ℕ). unopened m s 16) el ∙ sym (ap (openedFrom xs t d y s) none-found)
 
 -- The same at the members' own points, as the code has it.
-module _ {t d n w : ℕ} {words : List ℕ} (room : Room t d n w words) {s : ℕ} (dec : Decodable t d words s) where
+module _ {shape : Shape} {words : List ℕ} (room : Room shape words) {s : ℕ} (dec : Decodable (shape .t) (shape .d) words s) where
+  abbrev t : ℕ
+  t = shape .t
+
+  abbrev d : ℕ
+  d = shape .d
+
+  abbrev y : ℕ → ℕ → ℕ
+  y = shareWord t d words
+
   low : t ≤ 15
-  low = within-high 1 15 t (room .threshold)
+  low = room .station .range .t-high
 
   abbrev Opening : ℕ → List ℕ → ℕ → Type 0
-  Opening = Going (ownPoints t) t d (word t d words) s
+  Opening = Going (ownPoints t) t d y s
 
   abbrev answered : Opened
-  answered = openedFrom (ownPoints t) t d (word t d words) s (find (ownPoints t) t d (word t d words) s)
+  answered = openedFrom (ownPoints t) t d y s (find (ownPoints t) t d y s)
+
+  -- as many points as members
+  pub own-length : {points : List ℕ} → points ≡ ownPoints t → length points ≡ shape .n
+  own-length e = ap length e ∙ length-own t ∙ sym (room .station .members)
 
   pub opening-first : {secret : List ℕ} → length secret ≡ d → Opening s secret 0
-  opening-first {secret} e = going-first (ownPoints t) (own-distinct t low) t (length-own t) d (word t d words) s secret (dec .below) (dec .enough) e
+  opening-first {secret} e = going-first (ownPoints t) (own-distinct t low) t (length-own t) d y s secret (dec .below) (dec .enough) e
 
   module _ {agreed : ℕ} {secret : List ℕ} {k : ℕ} (going : Opening agreed secret k) where
     pub opening-last : d ≤ k → (let a : Opened = record { number = 0; survivors = s; agreeing = agreed; secret = secret } in a) ≡ answered
-    opening-last h = going-last (ownPoints t) (own-distinct t low) t (length-own t) d (word t d words) s agreed secret k h going
+    opening-last h = going-last (ownPoints t) (own-distinct t low) t (length-own t) d y s agreed secret k h going
 
     module _ (more : k < d) where
       -- the decoder finds nothing for word k
-      pub opening-none : {values : List ℕ} → values ≡ tab n (λ i. word t d words i k) → {len : ℕ} → len ≡ suc t
+      pub opening-none : {values : List ℕ} → values ≡ tab (shape .n) (λ i. shareWord t d words i k) → {len : ℕ} → len ≡ suc t
           → (r : Outcome) (f : List ℕ) → answerOf r f ≡ decode t values s len → {m : ℕ} → r ≡ Refused m
           → {answer : Opened} → answer ≡ unopened (length secret) s 16 → answer ≡ answered
       opening-none {values} ev {len} el r f a {m} e {answer} =
-          nothing (ownPoints t) t d (word t d words) s
-          (no-word (ownPoints t) (own-distinct t low) t (length-own t) d (word t d words) s k more (word-refused t d n w words room s dec k more values ev len el r f a m e))
+          nothing (ownPoints t) t d y s
+          (no-word (ownPoints t) (own-distinct t low) t (length-own t) d y s k more
+          (word-refused shape words room s dec k more values ev len el r f a m e))
           answer (length secret) (going .length-secret)
 
-      module _ {left v : ℕ} (turned : Turned (ownPoints t) t (word t d words) s agreed k left v)
-          {c enough : ℕ} (ec : c ≡ card 32 left) (ee : enough ≡ need t (card (size t) s)) where
+      module _ {left v : ℕ} (turned : Turned (ownPoints t) t y s agreed k left v)
+          {c all enough : ℕ} (ec : c ≡ card 32 left) (ea : all ≡ card 32 s) (ee : enough ≡ need t all) where
         counted : c ≡ card (size t) left
         counted =
             ec
             ∙ card-32 t left low
             (subst (λ (m : ℕ). m < 2 ^ size t) (sym (turned .members))
-            (setOf-lt (size t) (λ i. has agreed i && eqb (value (turned .f) (getD (ownPoints t) i 0)) (word t d words i k))))
+            (setOf-lt (size t) (λ i. has agreed i && eqb (value (turned .f) (getD (ownPoints t) i 0)) (y i k))))
+
+        needed : enough ≡ need t (card (size t) s)
+        needed = ee ∙ ap (need t) (ea ∙ card-32 t s low (dec .below))
 
         pub opening-few : c < enough → (x : ℕ) {answer : Opened} → answer ≡ unopened (length (set secret k x)) s 16 → answer ≡ answered
         opening-few few x {answer} =
-            nothing (ownPoints t) t d (word t d words) s
-            (going-few (ownPoints t) (own-distinct t low) t (length-own t) d (word t d words) s agreed secret k going more left v turned (omega (arith, few, counted, ee)))
+            nothing (ownPoints t) t d y s
+            (going-few (ownPoints t) (own-distinct t low) t (length-own t) d y s agreed secret k going more left v turned (omega (arith, few, counted, needed)))
             answer (length (set secret k x)) (length-set secret k x ∙ going .length-secret)
 
         pub opening-next : enough ≤ c → {x : ℕ} → x ≡ v → Opening left (set secret k x) (k + 1)
         opening-next many {x} =
-            going-next (ownPoints t) (own-distinct t low) t (length-own t) d (word t d words) s agreed secret k going more left v turned (omega (arith, many, counted, ee)) x
+            going-next (ownPoints t) (own-distinct t low) t (length-own t) d y s agreed secret k going more left v turned (omega (arith, many, counted, needed)) x

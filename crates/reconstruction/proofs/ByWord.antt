@@ -5,9 +5,8 @@ use mathlib.Core.Logic.{inl, inr}
 use mathlib.Core.Bool.{Bool, true, _&&_}
 use mathlib.Core.Option.{Option, none, some}
 use mathlib.Core.List.{List, [], _∷_}
-use Prim.Native.Nat.{ℕ, zero, suc, _+_, _<_, _^_}
+use Prim.Native.Nat.{ℕ, zero, suc, _<_, _^_}
 use native.Mathlib.Nat.{suc-ne-zero, suc-inj}
-use native.Mathlib.Numerals.{add-one}
 use native.Mathlib.Omega.{arith}
 use lib.Dec.{eqb}
 use lib.ListN.{length, getD}
@@ -15,24 +14,25 @@ use borrow.Author.Tests.{eq-eqb, le-leb, lt-ltb}
 use Rattle.lists.specs.Checks.{refusal}
 use Rattle.lists.specs.Tabulate.{tab}
 use Rattle.lists.proofs.Bools.{test}
-use Rattle.lists.proofs.Checks.{within-high}
 use Rattle.lists.proofs.Tabulate.{length-tab, getD-tab, all-intro}
 use Rattle.field.specs.Field.{prime}
 use Rattle.polynomial.specs.Polynomial.{value}
 use Rattle.members.specs.Members.{size, ownPoints, has, setOf, card}
 use Rattle.members.proofs.Masks.{setOf-ext}
-use Rattle.shares.specs.Layout.{word}
+use Rattle.members.proofs.Points.{length-own}
+use Rattle.shares.specs.Layout.{shareWord}
+use Rattle.shares.specs.Internal.Shape.{Room}
+use Rattle.shares.specs.declared.Shape.{Shape}
+use Rattle.shares.proofs.Shapes.{is-threshold}
 use Rattle.decoding.specs.declared.Outcome.{Outcome}
 use Rattle.decoding.specs.declared.Outcome.the-variants.{Found, Refused}
 use Rattle.decoding.specs.Answer.{answerOf}
 use Rattle.decoding.specs.Decoding.{Decoded, nth, find, undecoded, decodedFrom, decode}
 use Rattle.decoding.proofs.Apart.{find-ext}
 use Rattle.decoding.proofs.Points.{own-distinct}
-use Rattle.members.proofs.Points.{length-own, own-point}
 use Rattle.decoding.proofs.Refusals.{judgedAt, accepts}
 use Rattle.decoding.proofs.Search.{find-found}
 use Rattle.decoding.proofs.Words.{wordAt}
-use Rattle.reconstruction.specs.Internal.Room.{Room}
 use Rattle.reconstruction.specs.Internal.Steps.{Decodable}
 
 -- no refusal has the number 0
@@ -66,24 +66,28 @@ pub record Turned (xs : List ℕ) (t : ℕ) (y : ℕ → ℕ → ℕ) (s agreed 
   pub members : left ≡ setOf (size t) (λ i. has agreed i && eqb (value f (getD xs i 0)) (y i k))
   pub at-zero : v ≡ value f 0
 
-module _ (t d n w : ℕ) (words : List ℕ) (room : Room t d n w words) (s : ℕ) (dec : Decodable t d words s) (k : ℕ) (h : k < d) where
+module _ (shape : Shape) (words : List ℕ) (room : Room shape words) (s : ℕ) (dec : Decodable (shape .t) (shape .d) words s) (k : ℕ) (h : k < shape .d) where
+  abbrev t : ℕ
+  t = shape .t
+
   abbrev theWord : ℕ → ℕ
-  theWord i = word t d words i k
+  theWord i = shareWord t (shape .d) words i k
 
   abbrev found : Option (List (List ℕ))
-  found = find (ownPoints t) t 1 (λ i j. word t d words i k) s
+  found = find (ownPoints t) t 1 (λ i j. theWord i) s
 
-  module _ (values : List ℕ) (ev : values ≡ tab n (λ i. word t d words i k)) where
+  module _ (values : List ℕ) (ev : values ≡ tab (shape .n) theWord) where
     value-at : (i : ℕ) → i < size t → getD values i 0 ≡ theWord i
-    value-at i l = ap (λ (v : List ℕ). getD v i 0) ev ∙ getD-tab n theWord i 0 (subst (λ (m : ℕ). i < m) (sym (room .members)) l)
+    value-at i l =
+        ap (λ (v : List ℕ). getD v i 0) ev ∙ getD-tab (shape .n) theWord i 0 (subst (λ (m : ℕ). i < m) (sym (room .station .members)) l)
 
     as-many : length values ≡ size t
-    as-many = ap length ev ∙ length-tab n theWord ∙ room .members
+    as-many = ap length ev ∙ length-tab (shape .n) theWord ∙ room .station .members
 
     judged : (i : ℕ) → i < size t → judgedAt values s i ≡ true
     judged i l =
         elim (test (has s i)) [
-          | inl e ↦ rw (e, value-at i l) (lt-ltb (word t d words i k) prime (dec .field i l e k h))
+          | inl e ↦ rw (e, value-at i l) (lt-ltb (theWord i) prime (dec .field i l e k h))
           | inr e ↦ rw e
         ]
 
@@ -92,28 +96,29 @@ module _ (t d n w : ℕ) (words : List ℕ) (room : Room t d n w words) (s : ℕ
       decodes : answerOf r f ≡ decodedFrom (suc t) found
       decodes =
           a
-          ∙ accepts t values s len (room .threshold) (eq-eqb (length values) (size t) as-many) (eq-eqb len (suc t) el) (lt-ltb s (2 ^ size t) (dec .below))
-          (le-leb (suc t) (card (size t) s) (dec .enough)) (all-intro (size t) (judgedAt values s) judged)
+          ∙ accepts t values s len (is-threshold t (shape .d) (room .station .range)) (eq-eqb (length values) (size t) as-many) (eq-eqb len (suc t) el)
+          (lt-ltb s (2 ^ size t) (dec .below)) (le-leb (suc t) (card (size t) s) (dec .enough)) (all-intro (size t) (judgedAt values s) judged)
           ∙ ap (decodedFrom (suc t))
-          (find-ext (ownPoints t) (own-distinct t (within-high 1 15 t (room .threshold))) t (length-own t) 1 s (λ i j. getD values i 0) (λ i j. word t d words i k)
+          (find-ext (ownPoints t) (own-distinct t (room .station .range .t-high)) t (length-own t) 1 s (λ i j. getD values i 0) (λ i j. theWord i)
           (λ i l j m. value-at i l))
 
       pub word-refused : (m : ℕ) → r ≡ Refused m → found ≡ none
       word-refused m e = refused-none (suc t) m f found (ap (λ (x : Outcome). answerOf x f) (sym e) ∙ decodes)
 
-      pub word-found : r ≡ Found → (agreed left v : ℕ) → v ≡ value f 0
-          → left ≡ setOf (length values) (λ i. has agreed i && eqb (value f (i + 1)) (getD values i 0))
-          → Turned (ownPoints t) t (word t d words) s agreed k left v
-      word-found e agreed left v e0 meet =
+      pub word-found : r ≡ Found → (points : List ℕ) → points ≡ ownPoints t → (agreed left v : ℕ) → v ≡ value f 0
+          → left ≡ setOf (length values) (λ i. has agreed i && eqb (value f (getD points i 0)) (getD values i 0))
+          → Turned (ownPoints t) t (shareWord t (shape .d) words) s agreed k left v
+      word-found e points own agreed left v e0 meet =
+          let met : List ℕ → ℕ → Bool = λ xs i. has agreed i && eqb (value f (getD xs i 0)) (getD values i 0) in
           record {
             f = f;
             found =
-                found-one (suc t) f found (λ fs q. find-found (ownPoints t) t 1 (λ i j. word t d words i k) s fs q .places)
+                found-one (suc t) f found (λ fs q. find-found (ownPoints t) t 1 (λ i j. theWord i) s fs q .places)
                 (ap (λ (x : Outcome). answerOf x f) (sym e) ∙ decodes);
             members =
                 meet
-                ∙ ap (λ (m : ℕ). setOf m (λ i. has agreed i && eqb (value f (i + 1)) (getD values i 0))) as-many
-                ∙ setOf-ext (size t) (λ i. has agreed i && eqb (value f (i + 1)) (getD values i 0)) (λ i. has agreed i && eqb (value f (getD (ownPoints t) i 0)) (theWord i))
-                (λ i l. ap (λ (b : Bool). has agreed i && b) (ap₂ eqb (ap (value f) (add-one i ∙ sym (own-point t i l))) (value-at i l)));
+                ∙ ap₂ (λ (m : ℕ) (xs : List ℕ). setOf m (met xs)) as-many own
+                ∙ setOf-ext (size t) (met (ownPoints t)) (λ i. has agreed i && eqb (value f (getD (ownPoints t) i 0)) (theWord i))
+                (λ i l. ap (λ (y : ℕ). has agreed i && eqb (value f (getD (ownPoints t) i 0)) y) (value-at i l));
             at-zero = e0;
           }

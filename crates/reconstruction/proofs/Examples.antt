@@ -10,7 +10,7 @@ use Rattle.shares.specs.Layout.{width, word, shareWords, tagWord, keyα, keyβ}
 use Rattle.shares.specs.Sample.{sample, keyless}
 use Rattle.pruning.specs.Pruning.{votes, round, rounds, survivors}
 use Rattle.decoding.specs.Decoding.{surplus, need, agreeing, through, find}
-use Rattle.reconstruction.specs.Votes.{fieldShare, usable, tagHolds, accepts, voteRows}
+use Rattle.voting.specs.Votes.{fieldShare, usable, tagHolds, accepts, voteRows}
 use Rattle.reconstruction.specs.Reconstruction.{unopened, isQuorum, required, atZero, openedFrom, finish, reconstruct}
 use Rattle.reconstruction.specs.Examples.{Examples}
 
@@ -24,21 +24,9 @@ examples =
       c12 = refl;
       c13 = refl;
       c14 = refl;
-      word-65520 = refl;
-      word-65521 = refl;
-      tag-65520 = refl;
-      tag-65521 = refl;
-      key-65520 = refl;
-      key-65521 = refl;
-      absent = refl;
-      votes-as-dealt = refl;
-      votes-altered = refl;
-      votes-tag = refl;
-      votes-key = refl;
       quorum-above-usable = refl;
       quorum-of-usable = refl;
       quorum-of-all = refl;
-      absent-votes = refl;
       absent-do-not-vote = refl;
       present-vote = refl;
       threshold-before-length = refl;

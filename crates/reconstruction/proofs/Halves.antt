@@ -1,82 +1,135 @@
--- The second half of opening, way by way: 14, 15, and then what the words of the survivors come to.
+-- The second half of opening, way by way, from any votes: 14, 15, and then what the words of the survivors come to.
 -- Assumes nothing.
 use mathlib.Core.Path.{_≡_, sym, ap, _∙_, subst}
 use mathlib.Core.Logic.{inl, inr}
-use mathlib.Core.Bool.{_&&_}
+use mathlib.Core.Bool.{true, false, _&&_}
 use mathlib.Core.List.{List}
 use Prim.Native.Nat.{ℕ, _≤_, _<_, _^_}
 use native.Mathlib.Omega.{arith}
-use borrow.Author.Tests.{le-leb, lt-leb, eq-eqb}
-use Rattle.lists.proofs.Checks.{within-high}
-use Rattle.members.specs.Members.{size, ownPoints, has, card}
-use Rattle.members.proofs.Masks.{setOf-lt}
-use Rattle.shares.specs.Layout.{width, word}
-use Rattle.pruning.specs.Pruning.{survivors}
-use Rattle.pruning.proofs.Largest.{survivors-largest, survivors-size}
-use Rattle.decoding.specs.Decoding.{need, find}
+use lib.ListN.{length, getD}
+use borrow.Author.Tests.{le-leb, lt-leb, lt-ltb, eq-eqb}
+use Rattle.lists.specs.Tabulate.{tab, each}
+use Rattle.lists.proofs.Blocks.{every-tab, every-each}
+use Rattle.lists.proofs.Bools.{test, clash, and-left}
+use Rattle.lists.proofs.Count.{count-some}
+use Rattle.lists.proofs.Tabulate.{length-tab}
+use Rattle.members.specs.Members.{isThreshold, size, ownPoints, has, setOf, isSet, card}
+use Rattle.members.proofs.Masks.{setOf-lt, has-zero}
 use Rattle.members.proofs.Words.{card-32}
+use Rattle.shares.specs.Layout.{width, shareWord}
+use Rattle.shares.specs.Internal.Shape.{Room}
+use Rattle.shares.specs.declared.Shape.{Shape}
+use Rattle.voting.specs.Votes.{fieldShare, usable, accepts, voteRows}
+use Rattle.voting.proofs.Meaning.{usable-words, row-is}
+use Rattle.voting.proofs.Rows.{empty-row}
+use Rattle.pruning.specs.declared.Survivors.{Survivors}
+use Rattle.pruning.specs.declared.Survivors.the-variants.{Left, Refused}
+use Rattle.pruning.specs.Answer.{answerOf}
+use Rattle.pruning.specs.Pruning.{Pruned, votes, survivors, prune}
+use Rattle.pruning.proofs.Answers.{accepts as accepted}
+use Rattle.pruning.proofs.Largest.{survivors-largest, survivors-size}
+use Rattle.decoding.specs.Decoding.{find}
 use Rattle.reconstruction.specs.Reconstruction.{Opened, unopened, required, openedFrom, finish}
-use Rattle.reconstruction.specs.Internal.Room.{Room}
-use Rattle.reconstruction.specs.Internal.Steps.{Decodable}
-use Rattle.reconstruction.specs.Votes.{fieldShare, usable, voteRows}
-use Rattle.reconstruction.proofs.Meaning.{usable-words, survivor-usable}
+use Rattle.reconstruction.specs.Internal.Steps.{Voted, Decodable}
 use Rattle.reconstruction.proofs.Opening.{finish-opens}
 
-module _ (t d n w : ℕ) (words : List ℕ) (room : Room t d n w words) (present : ℕ) where
-  abbrev able : ℕ
-  able = usable t d present words
+-- what pruning's answer gives is the survivors
+module _ (t : ℕ) (rows : List ℕ) (h : isThreshold t ≡ true) (long : length rows ≡ size t) (sets : each (isSet (size t)) rows ≡ true)
+    (r : Survivors) (a : answerOf r ≡ prune t rows) where
+  given : (x : Survivors) → r ≡ x → answerOf x .survivors ≡ survivors t rows
+  given x q = ap (λ (y : Survivors). answerOf y .survivors) (sym q) ∙ ap (λ (p : Pruned). p .survivors) (a ∙ accepted t rows h long sets)
 
-  abbrev rows : List ℕ
-  rows = voteRows t d able words
+  pub survivors-left : (s : ℕ) → r ≡ Left s → s ≡ survivors t rows
+  survivors-left s = given (Left s)
 
-  low : t ≤ 15
-  low = within-high 1 15 t (room .threshold)
+  pub survivors-none : (k : ℕ) → r ≡ Refused k → 0 ≡ survivors t rows
+  survivors-none k = given (Refused k)
 
-  usable-lt : able < 2 ^ size t
-  unfolding usable
-  usable-lt = setOf-lt (size t) (λ i. has present i && fieldShare t d words i)
+-- the votes of shares: nobody accepts a member that is not usable
+pub votes-voted : (s : Shape) (words : List ℕ) (able present : ℕ) → able ≡ usable (s .t) (s .d) present words
+    → (rows : List ℕ) → rows ≡ voteRows (s .t) (s .d) able words → Voted s able rows words
+unfolding usable voteRows width
+votes-voted s words able present ea rows er =
+    let (t, d) : ℕ × ℕ = (s .t, s .d) in
+    let row : ℕ → ℕ = λ i. setOf (size t) (λ j. accepts t d able words j i) in
+    record {
+      below = subst (λ (m : ℕ). m < 2 ^ size t) (sym ea) (setOf-lt (size t) (λ i. has present i && fieldShare t d words i));
+      long = ap length er ∙ length-tab (size t) row;
+      sets =
+          ap (each (isSet (size t))) er
+          ∙ every-each (isSet (size t)) (every-tab (size t) row (λ i l. lt-ltb (row i) (2 ^ size t) (setOf-lt (size t) (λ j. accepts t d able words j i))));
+      field = λ i l some k m.
+          elim (test (has able i)) [
+            | inl e ↦ usable-words t d present words i l (subst (λ (a : ℕ). has a i ≡ true) ea e) k (omega arith)
+            | inr e ↦ absurd (some (ap (λ (r : List ℕ). getD r i 0) er ∙ row-is t d able words i l ∙ empty-row t d able words i e))
+          ];
+    }
 
-  module _ (a : ℕ) (ea : a ≡ able) where
-    pub usable-counted : (c : ℕ) → c ≡ card 32 a → c ≡ card (size t) able
-    usable-counted c ec = ec ∙ ap (card 32) ea ∙ card-32 t able low usable-lt
+module _ (s : Shape) (words : List ℕ) (room : Room s words) (able : ℕ) (rows : List ℕ) (voted : Voted s able rows words) where
+  abbrev t : ℕ
+  t = s .t
 
-    module _ (s : ℕ) (from : s ≡ survivors t (voteRows t d a words)) where
-      es : s ≡ survivors t rows
-      es = from ∙ ap (λ (m : ℕ). survivors t (voteRows t d m words)) ea
+  abbrev y : ℕ → ℕ → ℕ
+  y = shareWord t (s .d) words
 
-      pub decodable : (s ≡ 0 → ⊥) → Decodable t d words s
-      unfolding width
-      decodable some-left =
-          subst (Decodable t d words) (sym es)
-          (record {
-            below = survivors-largest t rows .below;
-            enough = elim (survivors-size t rows) [ inl z ↦ absurd (some-left (es ∙ z)) | inr h ↦ h ];
-            field = λ i l h k m.
-                usable-words t d present words i l (survivor-usable t d able words (survivors t rows) (survivors-largest t rows .closed) i l h) k (omega arith);
-          })
+  -- a survivor has a vote
+  voted-for : (i : ℕ) → i < size t → has (survivors t rows) i ≡ true → getD rows i 0 ≡ 0 → ⊥
+  unfolding votes
+  voted-for i l h none =
+      let set : ℕ = survivors t rows in
+      let (j, below, both) : (j : ℕ) × (j < size t) × (has (getD rows i 0) j && has set j ≡ true) =
+      count-some (size t) (λ j. has (getD rows i 0) j && has set j) (omega (arith, survivors-largest t rows .closed .accepted i l h)) in
+      clash (and-left (has (getD rows i 0) j) (has set j) both) (ap (λ (m : ℕ). has m j) none ∙ has-zero j)
 
-      pub needed : (v enough : ℕ) → v ≡ card 32 s → enough ≡ need t v → enough ≡ need t (card (size t) s)
-      needed v enough ev en =
-          en ∙ ap (need t) (ev ∙ card-32 t s low (subst (λ (m : ℕ). m < 2 ^ size t) (sym es) (survivors-largest t rows .below)))
+  module _ (v : ℕ) (ev : v ≡ survivors t rows) where
+    pub decodable : (v ≡ 0 → ⊥) → Decodable t (s .d) words v
+    decodable some-left =
+        subst (Decodable t (s .d) words) (sym ev)
+        (record {
+          below = survivors-largest t rows .below;
+          enough = elim (survivors-size t rows) [ inl z ↦ absurd (some-left (ev ∙ z)) | inr h ↦ h ];
+          field = λ i l h k m. voted .field i l (voted-for i l h) k m;
+        })
 
-      module _ (quorum : ℕ) (met : required t quorum ≤ card (size t) able) where
-        pub finish-15 : s ≡ 0 → (answer : Opened) (len : ℕ) → len ≡ d → answer ≡ unopened len 0 15
-            → answer ≡ finish (ownPoints t) t d quorum able rows (word t d words)
-        unfolding finish
-        finish-15 z answer len el e =
-            e
-            ∙ ap (λ (m : ℕ). unopened m 0 15) el
-            ∙ sym (rw (le-leb (required t quorum) (card (size t) able) met, eq-eqb (survivors t rows) 0 (sym es ∙ z)))
+  -- the code's counts of usable members and of those that the quorum asks for
+  module _ (quorum c q : ℕ) (ec : c ≡ card 32 able) (eq : q ≡ required t quorum) where
+    abbrev finished : Opened
+    finished = finish (ownPoints t) t (s .d) quorum able rows y
 
-        pub finish-words : (s ≡ 0 → ⊥) → (answer : Opened) → answer ≡ openedFrom (ownPoints t) t d (word t d words) s (find (ownPoints t) t d (word t d words) s)
-            → answer ≡ finish (ownPoints t) t d quorum able rows (word t d words)
-        finish-words some-left answer e =
-            e
-            ∙ ap (λ (m : ℕ). openedFrom (ownPoints t) t d (word t d words) m (find (ownPoints t) t d (word t d words) m)) es
-            ∙ sym (finish-opens (ownPoints t) t d quorum able rows (word t d words) met (λ z. some-left (es ∙ z)))
+    counted : c ≡ card (size t) able
+    counted = ec ∙ card-32 t able (room .station .range .t-high) (voted .below)
 
-pub finish-14 : (xs : List ℕ) (t d quorum able : ℕ) (rows : List ℕ) (y : ℕ → ℕ → ℕ) → card (size t) able < required t quorum
-    → (answer : Opened) (len : ℕ) → len ≡ d → answer ≡ unopened len 0 14 → answer ≡ finish xs t d quorum able rows y
-unfolding finish
-finish-14 xs t d quorum able rows y few answer len el e =
-    e ∙ ap (λ (m : ℕ). unopened m 0 14) el ∙ sym (rw (lt-leb (required t quorum) (card (size t) able) few))
+    pub finish-14 : c < q → (answer : Opened) (len : ℕ) → len ≡ s .d → answer ≡ unopened len 0 14 → answer ≡ finished
+    unfolding finish
+    finish-14 few answer len el e =
+        e ∙ ap (λ (m : ℕ). unopened m 0 14) el ∙ sym (rw (lt-leb (required t quorum) (card (size t) able) (omega (arith, counted, eq))))
+
+    module _ (enough : q ≤ c) (v : ℕ) (ev : v ≡ survivors t rows) where
+      met : required t quorum ≤ card (size t) able
+      met = omega (arith, counted, eq)
+
+      pub finish-15 : v ≡ 0 → (answer : Opened) (len : ℕ) → len ≡ s .d → answer ≡ unopened len 0 15 → answer ≡ finished
+      unfolding finish
+      finish-15 z answer len el e =
+          e
+          ∙ ap (λ (m : ℕ). unopened m 0 15) el
+          ∙ sym (rw (le-leb (required t quorum) (card (size t) able) met, eq-eqb (survivors t rows) 0 (sym ev ∙ z)))
+
+      pub finish-words : (v ≡ 0 → ⊥) → (answer : Opened) → answer ≡ openedFrom (ownPoints t) t (s .d) y v (find (ownPoints t) t (s .d) y v) → answer ≡ finished
+      finish-words some-left answer e =
+          e
+          ∙ ap (λ (m : ℕ). openedFrom (ownPoints t) t (s .d) y m (find (ownPoints t) t (s .d) y m)) ev
+          ∙ sym (finish-opens (ownPoints t) t (s .d) quorum able rows y met (λ z. some-left (ev ∙ z)))
+
+-- the votes of shares, with the usable members that the code has found
+pub by-votes : (s : Shape) (words : List ℕ) (quorum present able : ℕ) → able ≡ usable (s .t) (s .d) present words
+    → (rows : List ℕ) → rows ≡ voteRows (s .t) (s .d) able words
+    → (answer : Opened) → answer ≡ finish (ownPoints (s .t)) (s .t) (s .d) quorum able rows (shareWord (s .t) (s .d) words)
+    → answer
+    ≡ finish (ownPoints (s .t)) (s .t) (s .d) quorum (usable (s .t) (s .d) present words) (voteRows (s .t) (s .d) (usable (s .t) (s .d) present words) words)
+    (shareWord (s .t) (s .d) words)
+by-votes s words quorum present able ea rows er answer e =
+    let (t, d) : ℕ × ℕ = (s .t, s .d) in
+    e
+    ∙ ap (λ (r : List ℕ). finish (ownPoints t) t d quorum able r (shareWord t d words)) er
+    ∙ ap (λ (a : ℕ). finish (ownPoints t) t d quorum a (voteRows t d a words) (shareWord t d words)) ea

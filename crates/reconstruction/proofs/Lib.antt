@@ -7,5 +7,3 @@ pub mod Meaning
 pub mod Numbers
 pub mod Opening
 pub mod Order
-pub mod Places
-pub mod Voting

@@ -12,10 +12,10 @@ use Rattle.lists.specs.Checks.{_unless_}
 use Rattle.lists.specs.Tabulate.{each}
 use Rattle.lists.proofs.Checks.{number-fits}
 use Rattle.members.specs.Members.{isThreshold, size, ownPoints, isSet, card}
-use Rattle.shares.specs.Layout.{isLength, width, word}
+use Rattle.shares.specs.Layout.{isLength, width, shareWord}
+use Rattle.voting.specs.Votes.{usable, voteRows}
 use Rattle.pruning.specs.Pruning.{survivors}
 use Rattle.decoding.specs.Decoding.{find}
-use Rattle.reconstruction.specs.Votes.{usable, voteRows}
 use Rattle.reconstruction.specs.Reconstruction.{Opened, unopened, isQuorum, required, openedFrom, finish, reconstruct}
 
 from-fits : (xs : List ℕ) (t d : ℕ) (y : ℕ → ℕ → ℕ) (s : ℕ) (o : Option (List (List ℕ))) → openedFrom xs t d y s o .number ≤ 65535
@@ -30,7 +30,7 @@ module _ (t d present quorum : ℕ) (words : List ℕ) where
       let able : ℕ = usable t d present words in
       let rows : List ℕ = voteRows t d able words in
       let survived : ℕ = survivors t rows in
-      let y : ℕ → ℕ → ℕ = word t d words in
+      let y : ℕ → ℕ → ℕ = shareWord t d words in
       let found : Opened = openedFrom (ownPoints t) t d y survived (find (ownPoints t) t d y survived) in
       number-fits (unopened d 0) (λ a. a .number) (λ k. refl)
       (1 unless isThreshold t

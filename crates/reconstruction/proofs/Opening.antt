@@ -1,8 +1,8 @@
 -- What opening answers, for any distinct points: 16 exactly where nothing fits, and else the only answer.
 -- Assumes nothing.
-use mathlib.Core.Path.{_≡_, refl}
+use mathlib.Core.Path.{_≡_, sym, _∙_}
 use mathlib.Core.Logic.{inl, inr}
-use mathlib.Core.Bool.{true}
+use mathlib.Core.Bool.{Bool, true}
 use mathlib.Core.Option.{some}
 use mathlib.Core.List.{List}
 use Prim.Native.Nat.{ℕ, suc, _+_, _*_, _^_, _≤_, _<_}
@@ -15,12 +15,12 @@ use Rattle.lists.specs.Checks.{refusal, within}
 use Rattle.lists.proofs.Bools.{test}
 use Rattle.lists.proofs.Checks.{within-low}
 use Rattle.members.specs.Members.{isThreshold, size, ownPoints, card}
-use Rattle.shares.specs.Layout.{isLength, width, word}
+use Rattle.shares.specs.Layout.{isLength, width, shareWord}
+use Rattle.voting.specs.Votes.{usable, voteRows}
 use Rattle.pruning.specs.Pruning.{survivors}
 use Rattle.decoding.specs.Decoding.{find}
 use Rattle.reconstruction.specs.declared.Outcome.the-variants.{Refused}
 use Rattle.reconstruction.specs.Answer.{answerOf}
-use Rattle.reconstruction.specs.Votes.{usable, voteRows}
 use Rattle.reconstruction.specs.Reconstruction.{unopened, isQuorum, required, openedFrom, finish, reconstruct}
 
 -- a quorum that usable members meet, and some survivors: the answer is from the survivors' share words
@@ -34,7 +34,7 @@ finish-opens xs t d quorum able rows y met some-left =
 pub reconstruct-finishes : (t d present quorum : ℕ) (words : List ℕ) → isThreshold t ≡ true → isLength d ≡ true → length words ≡ size t * width t d
     → present < 2 ^ size t → isQuorum t quorum ≡ true
     → reconstruct t d present quorum words
-    ≡ finish (ownPoints t) t d quorum (usable t d present words) (voteRows t d (usable t d present words) words) (word t d words)
+    ≡ finish (ownPoints t) t d quorum (usable t d present words) (voteRows t d (usable t d present words) words) (shareWord t d words)
 unfolding reconstruct
 reconstruct-finishes t d present quorum words ht hd hw hp hq =
     rw (ht, hd, eq-eqb (length words) (size t * width t d) hw, lt-ltb present (2 ^ size t) hp, hq)
@@ -54,17 +54,17 @@ module _ (t quorum : ℕ) where
   unfolding required
   required-0 e = rw (eq-eqb quorum 0 e) (add-one t)
 
-  pub required-other : (quorum ≡ 0 → ⊥) → required t quorum ≡ quorum
+  pub required-other : (quorum ≡ 0 → ⊥) → quorum ≡ required t quorum
   unfolding required
   required-other h = rw (ne-eqb quorum 0 h)
 
-  pub quorum-0 : quorum ≡ 0 → isQuorum t quorum ≡ true
+  pub quorum-0 : quorum ≡ 0 → true ≡ isQuorum t quorum
   unfolding isQuorum
   quorum-0 e = rw (eq-eqb quorum 0 e)
 
-  pub quorum-other : (n : ℕ) → n ≡ size t → (quorum ≡ 0 → ⊥) → isQuorum t quorum ≡ within (t + 1) n quorum
+  pub quorum-other : (n : ℕ) → n ≡ size t → (quorum ≡ 0 → ⊥) → (b : Bool) → b ≡ within (t + 1) n quorum → b ≡ isQuorum t quorum
   unfolding isQuorum
-  quorum-other n e h = rw (ne-eqb quorum 0 h, e, add-one)
+  quorum-other n e h b eb = eb ∙ sym (rw (ne-eqb quorum 0 h, ← e, ← add-one))
 
 -- a refusal's answer
 pub refused-so : (d number survived : ℕ) (secret : List ℕ) → secret ≡ replicate d 65535 → answerOf (Refused number survived) secret ≡ unopened d survived (refusal number)

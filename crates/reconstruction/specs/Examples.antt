@@ -1,10 +1,10 @@
 -- Document 01's examples of opening, and corners that they leave open. Proved in proofs/Examples.antt.
-use Prim.Native.Nat.{ℕ, _+_}
+use Prim.Native.Nat.{ℕ}
 use mathlib.Core.Path.{_≡_}
 use mathlib.Core.List.{List, [], _∷_}
 use lib.ListN.{set, replicate}
 use Rattle.shares.specs.Sample.{sample, keyless}
-use Rattle.reconstruction.specs.Votes.{usable, voteRows}
+use Rattle.voting.specs.Examples.{second, unaccepted}
 use Rattle.reconstruction.specs.Reconstruction.{Opened, unopened, reconstruct}
 
 abbrev pub opened : ℕ → ℕ → List ℕ → Opened
@@ -38,14 +38,6 @@ C13 = reconstruct 2 2 31 0 (zeros22 0) ≡ opened 31 23 (0 ∷ 0 ∷ [])
 abbrev pub C14 : Type 0
 C14 = reconstruct 2 2 31 0 (zeros22 1) ≡ unopened 2 31 16
 
--- the sample as dealt, with x at place k of member 2's share: place 0 is its share word, 2 is tag(2,2), 9 is β of key(2,3)
-abbrev pub second : ℕ → ℕ → List ℕ
-second k x = set (sample 259) (10 + k) x
-
--- t = 2, d = 1, all words 0, but tag(3,1) is 1
-abbrev pub unaccepted : List ℕ
-unaccepted = set (replicate 80 0) 33 1
-
 pub record Examples : Type 0 where
   pub c9-opened : C9Opened
   pub c10-opened : C10Opened
@@ -53,27 +45,11 @@ pub record Examples : Type 0 where
   pub c12 : C12
   pub c13 : C13
   pub c14 : C14
-  -- 65520 and 65521 in a share word, a tag and a key of member 2
-  pub word-65520 : usable 1 1 7 (second 0 65520) ≡ 7
-  pub word-65521 : usable 1 1 7 (second 0 65521) ≡ 5
-  pub tag-65520 : usable 1 1 7 (second 2 65520) ≡ 7
-  pub tag-65521 : usable 1 1 7 (second 2 65521) ≡ 5
-  pub key-65520 : usable 1 1 7 (second 9 65520) ≡ 7
-  pub key-65521 : usable 1 1 7 (second 9 65521) ≡ 5
-  -- an absent member is not usable, whatever its words are
-  pub absent : usable 1 1 5 (sample 259) ≡ 5
-  -- votes of the sample as dealt; with 300 for 259 members 1 and 2 do not accept member 3, nor does member 3 itself
-  pub votes-as-dealt : voteRows 1 1 7 (sample 259) ≡ 7 ∷ 7 ∷ 7 ∷ []
-  pub votes-altered : voteRows 1 1 7 (sample 300) ≡ 7 ∷ 7 ∷ 0 ∷ []
-  -- member 2's tag(2,3) is altered: only member 3 does not accept member 2; its key(2,3) is altered: only member 2 does not accept member 3
-  pub votes-tag : voteRows 1 1 7 (second 3 0) ≡ 7 ∷ 3 ∷ 7 ∷ []
-  pub votes-key : voteRows 1 1 7 (second 9 0) ≡ 7 ∷ 7 ∷ 5 ∷ []
   -- three present and two usable: a quorum of 3 is not met, one of 2 is
   pub quorum-above-usable : reconstruct 1 1 7 3 (second 9 65521) ≡ unopened 1 0 14
   pub quorum-of-usable : reconstruct 1 1 7 2 (second 9 65521) ≡ opened 5 5 (250 ∷ [])
   pub quorum-of-all : reconstruct 1 1 7 3 (sample 259) ≡ opened 7 7 (250 ∷ [])
   -- members 4 and 5 are absent: their zeros do not vote, so member 3 has two votes, and then nobody has three
-  pub absent-votes : voteRows 2 1 7 unaccepted ≡ 7 ∷ 7 ∷ 6 ∷ 0 ∷ 0 ∷ []
   pub absent-do-not-vote : reconstruct 2 1 7 0 unaccepted ≡ unopened 1 0 15
   pub present-vote : reconstruct 2 1 31 0 unaccepted ≡ opened 31 31 (0 ∷ [])
   -- an input with two faults gets the earlier number

@@ -2,4 +2,3 @@ pub mod Answer
 pub mod Examples
 pub mod Internal
 pub mod Reconstruction
-pub mod Votes

@@ -10,10 +10,10 @@ use Rattle.lists.specs.Tabulate.{tab}
 use Rattle.lists.specs.Checks.{_unless_, checked, within}
 use Rattle.polynomial.specs.Polynomial.{value}
 use Rattle.members.specs.Members.{isThreshold, size, ownPoints, isSet, card}
-use Rattle.shares.specs.Layout.{isLength, width, word}
+use Rattle.shares.specs.Layout.{isLength, width, shareWord}
+use Rattle.voting.specs.Votes.{usable, voteRows}
 use Rattle.pruning.specs.Pruning.{survivors}
 use Rattle.decoding.specs.Decoding.{agreeing, nth, find}
-use Rattle.reconstruction.specs.Votes.{usable, voteRows}
 
 -- what opening answers: 0 or the refusal's number, the survivors, the agreeing survivors, and the secret buffer at exit
 pub record Opened : Type 0 where
@@ -56,7 +56,7 @@ finish xs t d quorum able rows y =
 unfoldable pub reconstruct : ℕ → ℕ → ℕ → ℕ → List ℕ → Opened
 reconstruct t d present quorum words =
     let able : ℕ = usable t d present words in
-    let answer : Opened = finish (ownPoints t) t d quorum able (voteRows t d able words) (word t d words) in
+    let answer : Opened = finish (ownPoints t) t d quorum able (voteRows t d able words) (shareWord t d words) in
     checked (unopened d 0)
     (1 unless isThreshold t
     ∷ 2 unless isLength d

@@ -6,7 +6,7 @@ use mathlib.Core.List.{List}
 use Prim.Native.Nat.{ℕ, _+_, _*_, _≤_, _<_}
 use native.Mathlib.Omega.{arith}
 use lib.ListN.{length}
-use Rattle.lists.proofs.Checks.{within-low, within-high}
+use Rattle.lists.proofs.Checks.{within-intro, within-low, within-high}
 use Rattle.members.specs.Members.{isThreshold, size}
 use Rattle.shares.specs.Layout.{isLength, width}
 use Rattle.shares.specs.Internal.Shape.{InRange, shapeOf, Station, Room, At}
@@ -16,6 +16,9 @@ use Rattle.shares.proofs.Places.{row-inside, all-fit}
 -- what the checks of t and d show
 pub in-range : (t d : ℕ) → isThreshold t ≡ true → isLength d ≡ true → InRange t d
 in-range t d p q = record { t-low = within-low 1 15 t p; t-high = within-high 1 15 t p; d-low = within-low 1 64 d q; d-high = within-high 1 64 d q }
+
+pub is-threshold : (t d : ℕ) → InRange t d → isThreshold t ≡ true
+is-threshold t d r = within-intro 1 15 t (r .t-low) (r .t-high)
 
 -- the shape as the code makes it
 pub shaped : (t d n : ℕ) → n ≡ size t → (let s : Shape = record { t = t; d = d; n = n; width = d + 3 * n } in s) ≡ shapeOf t d

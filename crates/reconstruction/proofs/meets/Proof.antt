@@ -1,53 +1,30 @@
--- `reconstruction::meets` meets its contract.
+-- `reconstruction::meets`: its two tests are those of the contract.
 -- Assumes nothing.
-use mathlib.Core.Path.{refl, sym, _∙_}
-use borrow.Author.Tests.{not-true, not-false, eq-eqb, ne-eqb}
-use Rattle.reconstruction.proofs.Voting.{first-fails, second-fails, both-pass}
+use mathlib.Core.Path.{sym, _∙_}
 use borrow.Author.Needs.{needs}
+use borrow.Author.Tests.{eq-eqb, ne-eqb}
+use Rattle.members.proofs.Taken.{first-fails, second-fails, both-pass}
 use Rattle.reconstruction.proofs.meets.Statement.{statement}
 use Rattle.reconstruction.proofs.meets.Tie as tie
-
-has-requires : tie.Need-has-requires
-has-requires c κs = search needs
-
-returns : tie.Need-returns
-returns c = first-fails _ _ _ _ _ (c .before .has .ensures) (not-true _ (c .if1 .taken))
-
-add-evaluate : tie.Need-add-evaluate
-add-evaluate c = search needs
-
-cast-evaluate : tie.Need-cast-evaluate
-cast-evaluate c = search needs
-
-evaluate-requires : tie.Need-evaluate-requires
-evaluate-requires c κs = search needs
-
-mul-if2 : tie.Need-mul-if2
-mul-if2 c = search needs
-
-shared-slice-read-if2 : tie.Need-shared-slice-read-if2
-shared-slice-read-if2 c = search needs
-
-returns-2 : tie.Need-returns-2
-returns-2 c = second-fails _ _ _ _ _ (c .before .before .before .before .has .ensures) _ (not-false _ (c .before .before .before .if1 .left)) refl (ne-eqb _ _ (λ e. c .if2 .taken (c .before .before .evaluate .ensures ∙ e)))
-
-with-requires : tie.Need-with-requires
-with-requires c κs = search needs
-
-returns-3 : tie.Need-returns-3
-returns-3 c = c .with .ensures ∙ both-pass _ _ _ _ _ (c .before .before .before .before .before .has .ensures) _ (not-false _ (c .before .before .before .before .if1 .left)) refl (eq-eqb _ _ (sym (c .before .before .before .evaluate .ensures) ∙ c .before .if2 .left))
 
 pub meets-spec : {M : Type 1} → statement M
 meets-spec =
     tie.close
     (tie.spec
-    has-requires
-    returns
-    add-evaluate
-    cast-evaluate
-    evaluate-requires
-    mul-if2
-    shared-slice-read-if2
-    returns-2
-    with-requires
-    returns-3)
+    -- if !members::has(agreed, i) { return set }
+    (λ c κs. search needs)
+    (λ c. search first-fails)
+    -- if polynomial::evaluate(f, points[i]) != values[i] { return set }
+    (λ c. search needs)
+    (λ c. search needs)
+    (λ c κs. search needs)
+    (λ c. search needs)
+    (λ c. search needs)
+    (λ c.
+    let (at-has, at-if1, at-evaluate) : tie.After-has × tie.Else1 × tie.After-evaluate = (search, search, search) in
+    second-fails _ _ _ _ _ (at-has .has .ensures) (at-if1 .if1 .left) (ne-eqb _ _ (λ e. c .if2 .taken (at-evaluate .evaluate .ensures ∙ e))))
+    -- members::with(set, i)
+    (λ c κs. search needs)
+    (λ c.
+    let (at-has, at-if1, at-evaluate, at-if2) : tie.After-has × tie.Else1 × tie.After-evaluate × tie.Else2 = (search, search, search, search) in
+    both-pass _ _ _ _ _ (at-has .has .ensures) (at-if1 .if1 .left) (eq-eqb _ _ (sym (at-evaluate .evaluate .ensures) ∙ at-if2 .if2 .left)) _ (c .with .ensures)))

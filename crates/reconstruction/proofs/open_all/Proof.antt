@@ -1,4 +1,4 @@
--- `reconstruction::open_all` meets its contract, which is that of `open_words`: the arrays have room for n values and t + 1 coefficients.
+-- `reconstruction::open_all`: the arrays have room for n points, n values and t + 1 coefficients, and the rest is `open_at_own`.
 -- Assumes nothing.
 use mathlib.Core.Path.{sym, _∙_}
 use native.Mathlib.Numerals.{add-one}
@@ -12,16 +12,29 @@ pub open-all-spec : {M : Type 1} → statement M
 open-all-spec =
     tie.close
     (tie.spec
-    -- &mut values[..n]
+    -- let coefficients = s.t + 1
     (λ c. search needs)
-    (λ c. let start : tie.Start = search in sym (length-take-le _ _ (start .pre .0 .few)))
-    -- &mut f[..t + 1]
-    (λ c. search needs)
+    -- &mut points[..n]
     (λ c. search needs)
     (λ c. sym (length-take-le _ _ (omega arith)))
-    -- open_words(..)
-    (λ c κs.
-    let start : tie.Start = search in
-    (search needs, (search needs, (length-take-le _ _ (start .pre .0 .few), length-take-le _ _ (omega arith) ∙ add-one _, search needs, search needs))))
+    -- &mut values[..n]
+    (λ c. search needs)
+    (λ c. sym (length-take-le _ _ (omega arith)))
+    -- &mut f[..coefficients]
+    (λ c. search needs)
+    (λ c. sym (length-take-le _ _ (omega arith)))
+    -- open_at_own(..)
+    (λ c κs. (
+      search needs,
+      (
+        search needs,
+        (
+          length-take-le _ _ (omega arith),
+          length-take-le _ _ (omega arith),
+          length-take-le _ _ (omega arith) ∙ add-one _,
+          search needs,
+        ),
+      ),
+    ))
     (λ c. search needs)
     (λ c. search needs))

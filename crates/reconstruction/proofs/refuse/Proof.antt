@@ -1,18 +1,9 @@
--- `reconstruction::refuse` meets its contract.
+-- `reconstruction::refuse`: `lists::fill` has written 65535 into every word.
 -- Assumes nothing.
-use Rattle.reconstruction.proofs.Opening.{refused-so}
 use borrow.Author.Needs.{needs}
+use Rattle.reconstruction.proofs.Opening.{refused-so}
 use Rattle.reconstruction.proofs.refuse.Statement.{statement}
 use Rattle.reconstruction.proofs.refuse.Tie as tie
 
-fill-requires : tie.Need-fill-requires
-fill-requires c κs = search needs
-
-same-length : tie.Need-same-length
-same-length c = search needs
-
-returns : tie.Need-returns
-returns c = refused-so _ (c .before .before .before .before .before .args .number) (c .before .before .before .before .before .args .survived) _ (c .before .before .fill .ensures)
-
 pub refuse-spec : {M : Type 1} → statement M
-refuse-spec = tie.close (tie.spec fill-requires same-length returns)
+refuse-spec = tie.close (tie.spec (λ c κs. search needs) (λ c. search needs) (λ c. search refused-so))

@@ -1,15 +1,25 @@
--- What the survivors have to be before their words are opened one after the other.
+-- What votes have to be for the second half of opening, and what the survivors have to be before their words are opened.
 -- Assumes nothing.
 use Prim.Native.Nat.{ℕ, suc, _≤_, _<_, _^_}
 use mathlib.Core.Path.{_≡_}
 use mathlib.Core.Bool.{true}
 use mathlib.Core.List.{List}
+use lib.ListN.{length, getD}
+use Rattle.lists.specs.Tabulate.{each}
 use Rattle.field.specs.Field.{prime}
-use Rattle.members.specs.Members.{size, has, card}
-use Rattle.shares.specs.Layout.{word}
+use Rattle.members.specs.Members.{size, has, isSet, card}
+use Rattle.shares.specs.Layout.{shareWord}
+use Rattle.shares.specs.declared.Shape.{Shape}
+
+-- votes from anywhere: a row for each of n members, and field words as share words of every member that has a vote
+pub record Voted (s : Shape) (able : ℕ) (rows words : List ℕ) : Type 0 where
+  pub below : able < 2 ^ size (s .t)
+  pub long : length rows ≡ size (s .t)
+  pub sets : each (isSet (size (s .t))) rows ≡ true
+  pub field : (i : ℕ) → i < size (s .t) → (getD rows i 0 ≡ 0 → ⊥) → (k : ℕ) → k < s .d → shareWord (s .t) (s .d) words i k < prime
 
 -- a set of members that can be decoded: at least t + 1, with field words as share words
-pub record Decodable (t d : ℕ) (words : List ℕ) (s : ℕ) : Type 0 where
-  pub below : s < 2 ^ size t
-  pub enough : suc t ≤ card (size t) s
-  pub field : (i : ℕ) → i < size t → has s i ≡ true → (k : ℕ) → k < d → word t d words i k < prime
+pub record Decodable (t d : ℕ) (words : List ℕ) (set : ℕ) : Type 0 where
+  pub below : set < 2 ^ size t
+  pub enough : suc t ≤ card (size t) set
+  pub field : (i : ℕ) → i < size t → has set i ≡ true → (k : ℕ) → k < d → shareWord t d words i k < prime

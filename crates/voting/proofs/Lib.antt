@@ -1,0 +1,5 @@
+-- What is proved of this crate.
+pub mod Examples
+pub mod Meaning
+pub mod Places
+pub mod Rows

@@ -1,0 +1,16 @@
+-- `voting::accepted`: the words that it hands on stand at the places of tag(i,j), key(j,i) and i's share words.
+-- Assumes nothing.
+use borrow.Author.Needs.{needs}
+use Rattle.voting.proofs.Places.{tag-tested}
+use Rattle.voting.proofs.accepted.Statement.{statement}
+use Rattle.voting.proofs.accepted.Tie as tie
+
+pub accepted-spec : {M : Type 1} → statement M
+accepted-spec =
+    tie.close
+    (tie.spec
+    (λ c κs. search needs)
+    (λ c κs. search needs)
+    (λ c κs. search needs)
+    (λ c κs. search needs)
+    (λ c. search tag-tested))

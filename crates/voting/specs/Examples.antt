@@ -1,0 +1,34 @@
+-- Corners of usable members and votes. Proved in proofs/Examples.antt.
+use Prim.Native.Nat.{ℕ, _+_}
+use mathlib.Core.Path.{_≡_}
+use mathlib.Core.List.{List, [], _∷_}
+use lib.ListN.{set, replicate}
+use Rattle.shares.specs.Sample.{sample}
+use Rattle.voting.specs.Votes.{usable, voteRows}
+
+-- the sample as dealt, with x at place k of member 2's share: place 0 is its share word, 2 is tag(2,2), 9 is β of key(2,3)
+abbrev pub second : ℕ → ℕ → List ℕ
+second k x = set (sample 259) (10 + k) x
+
+-- t = 2, d = 1, all words 0, but tag(3,1) is 1
+abbrev pub unaccepted : List ℕ
+unaccepted = set (replicate 80 0) 33 1
+
+pub record Examples : Type 0 where
+  -- 65520 and 65521 in a share word, a tag and a key of member 2
+  pub word-65520 : usable 1 1 7 (second 0 65520) ≡ 7
+  pub word-65521 : usable 1 1 7 (second 0 65521) ≡ 5
+  pub tag-65520 : usable 1 1 7 (second 2 65520) ≡ 7
+  pub tag-65521 : usable 1 1 7 (second 2 65521) ≡ 5
+  pub key-65520 : usable 1 1 7 (second 9 65520) ≡ 7
+  pub key-65521 : usable 1 1 7 (second 9 65521) ≡ 5
+  -- an absent member is not usable, whatever its words are
+  pub absent : usable 1 1 5 (sample 259) ≡ 5
+  -- votes of the sample as dealt; with 300 for 259 members 1 and 2 do not accept member 3, nor does member 3 itself
+  pub votes-as-dealt : voteRows 1 1 7 (sample 259) ≡ 7 ∷ 7 ∷ 7 ∷ []
+  pub votes-altered : voteRows 1 1 7 (sample 300) ≡ 7 ∷ 7 ∷ 0 ∷ []
+  -- member 2's tag(2,3) is altered: only member 3 does not accept member 2; its key(2,3) is altered: only member 2 does not accept member 3
+  pub votes-tag : voteRows 1 1 7 (second 3 0) ≡ 7 ∷ 3 ∷ 7 ∷ []
+  pub votes-key : voteRows 1 1 7 (second 9 0) ≡ 7 ∷ 7 ∷ 5 ∷ []
+  -- members 4 and 5 are absent: their zeros do not vote, so member 3 has two votes
+  pub absent-votes : voteRows 2 1 7 unaccepted ≡ 7 ∷ 7 ∷ 6 ∷ 0 ∷ 0 ∷ []
