@@ -18,47 +18,35 @@ Inv-loop field value₀ i₀ value i = (i ≤ length field) × ((value ≤ 65535
 abbrev μ-loop : tie.MeasureT-loop
 μ-loop field value₀ i₀ value i = length field - i
 
-loop-holds : tie.Need-loop-holds Inv-loop μ-loop
-loop-holds c = (omega arith, (omega arith, refl))
-
-shared-slice-read-b : tie.Need-shared-slice-read-b Inv-loop μ-loop
-shared-slice-read-b c = omega arith
-
-is-digit-requires : tie.Need-is-digit-requires Inv-loop μ-loop
-is-digit-requires c κs = search needs
-
 returns : tie.Need-returns Inv-loop μ-loop
-returns c = digits-bad _ _ _ (c .before .before .before .loop-test .taken) (c .before .before .before .before .loop .inv .1 .1) (sym (c .before .is-digit .ensures) ∙ not-true _ (c .if1 .taken))
-
-mul-value : tie.Need-mul-value Inv-loop μ-loop
-mul-value c = omega arith
+returns c =
+    let (at-loop, at-loop-test, at-is-digit) : tie.At-loop Inv-loop μ-loop × tie.In-loop Inv-loop μ-loop × tie.After-is-digit Inv-loop μ-loop = (search, search, search) in
+    digits-bad _ _ _ (at-loop-test .loop-test .taken) (at-loop .loop .inv .1 .1) (sym (at-is-digit .is-digit .ensures) ∙ not-true _ (c .if1 .taken))
 
 sub-value : tie.Need-sub-value Inv-loop μ-loop
-sub-value c = within-low 48 57 _ (sym (c .before .is-digit .ensures) ∙ not-false _ (c .if1 .left))
+sub-value c =
+    let at-is-digit : tie.After-is-digit Inv-loop μ-loop = search in
+    within-low 48 57 _ (sym (at-is-digit .is-digit .ensures) ∙ not-false _ (c .if1 .left))
 
 cast-value : tie.Need-cast-value Inv-loop μ-loop
-cast-value c = omega (arith, c .before .before .shared-slice-known2 .given (c .before .before .before .before .loop .i))
+cast-value c =
+    let (at-loop, at-shared-slice-known2) : tie.At-loop Inv-loop μ-loop × tie.After-shared-slice-known2 Inv-loop μ-loop = (search, search) in
+    omega (arith, at-shared-slice-known2 .shared-slice-known2 .given (at-loop .loop .i))
 
 add-value : tie.Need-add-value Inv-loop μ-loop
-add-value c = omega (arith, c .before .before .shared-slice-known2 .given (c .before .before .before .before .loop .i))
+add-value c =
+    let (at-loop, at-shared-slice-known2) : tie.At-loop Inv-loop μ-loop × tie.After-shared-slice-known2 Inv-loop μ-loop = (search, search) in
+    omega (arith, at-shared-slice-known2 .shared-slice-known2 .given (at-loop .loop .i))
 
 returns-2 : tie.Need-returns-2 Inv-loop μ-loop
-returns-2 c = digits-over (c .before .before .before .before .before .before .before .args .field .now) (c .before .before .before .before .before .loop .i) (c .before .before .before .before .before .loop .value) (c .before .before .before .before .loop-test .taken) (c .before .before .before .before .before .loop .inv .1 .1) (sym (c .before .before .is-digit .ensures) ∙ not-false _ (c .before .if1 .left)) (omega arith)
-
-add-i : tie.Need-add-i Inv-loop μ-loop
-add-i c = omega arith
-
-loop-less : tie.Need-loop-less Inv-loop μ-loop
-loop-less c = omega arith
+returns-2 c =
+    let (entry, at-loop, at-loop-test, at-is-digit, at-if1) : tie.Start Inv-loop μ-loop × tie.At-loop Inv-loop μ-loop × tie.In-loop Inv-loop μ-loop × tie.After-is-digit Inv-loop μ-loop × tie.Else1 Inv-loop μ-loop = (search, search, search, search, search) in
+    digits-over (entry .args .field .now) (at-loop .loop .i) (at-loop .loop .value) (at-loop-test .loop-test .taken) (at-loop .loop .inv .1 .1) (sym (at-is-digit .is-digit .ensures) ∙ not-false _ (at-if1 .if1 .left)) (omega arith)
 
 loop-again : tie.Need-loop-again Inv-loop μ-loop
-loop-again c = (omega arith, (omega arith, digits-step _ _ _ (c .before .before .before .before .loop-test .taken) (c .before .before .before .before .before .loop .inv .1 .1) (sym (c .before .before .is-digit .ensures) ∙ not-false _ (c .before .if1 .left))))
-
-cast-t12 : tie.Need-cast-t12 Inv-loop μ-loop
-cast-t12 c = omega arith
-
-returns-3 : tie.Need-returns-3 Inv-loop μ-loop
-returns-3 c = digits-done _ _ _ (c .loop-test .left) (c .before .loop .inv .1 .0) (c .before .loop .inv .1 .1)
+loop-again c =
+    let (at-loop, at-loop-test, at-is-digit, at-if1) : tie.At-loop Inv-loop μ-loop × tie.In-loop Inv-loop μ-loop × tie.After-is-digit Inv-loop μ-loop × tie.Else1 Inv-loop μ-loop = (search, search, search, search) in
+    (omega arith, (omega arith, digits-step _ _ _ (at-loop-test .loop-test .taken) (at-loop .loop .inv .1 .1) (sym (at-is-digit .is-digit .ensures) ∙ not-false _ (at-if1 .if1 .left))))
 
 pub digits-spec : {M : Type 1} → statement M
 digits-spec =
@@ -66,17 +54,17 @@ digits-spec =
     (tie.spec
     Inv-loop
     μ-loop
-    loop-holds
-    shared-slice-read-b
-    is-digit-requires
+    (λ c. (omega arith, (omega arith, refl)))
+    (λ c. omega arith)
+    (λ c κs. search needs)
     returns
-    mul-value
+    (λ c. omega arith)
     sub-value
     cast-value
     add-value
     returns-2
-    add-i
-    loop-less
+    (λ c. omega arith)
+    (λ c. omega arith)
     loop-again
-    cast-t12
-    returns-3)
+    (λ c. omega arith)
+    (λ c. search digits-done))

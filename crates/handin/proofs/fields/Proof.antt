@@ -16,53 +16,18 @@ Inv-loop line out₀ rest₀ i₀ out rest i = (i ≤ length out₀) × ((length
 abbrev μ-loop : tie.MeasureT-loop
 μ-loop line out₀ rest₀ i₀ out rest i = length out₀ - i
 
-loop-holds : tie.Need-loop-holds Inv-loop μ-loop
-loop-holds c = (omega arith, (refl, fields-start _ _ _))
-
-next-field-requires : tie.Need-next-field-requires Inv-loop μ-loop
-next-field-requires c κs = search needs
-
-enum-known-value : tie.Need-enum-known-value Inv-loop μ-loop
-enum-known-value c = search needs
-
-mul-out : tie.Need-mul-out Inv-loop μ-loop
-mul-out c = omega arith
-
-slice-write-out : tie.Need-slice-write-out Inv-loop μ-loop
-slice-write-out c = omega arith
-
-sub-rest : tie.Need-sub-rest Inv-loop μ-loop
-sub-rest c = field-inside _ _ _ (c .before .before .before .next-field .ensures) (c .before .value .given .1)
-
-part-rest-start : tie.Need-part-rest-start Inv-loop μ-loop
-part-rest-start c = field-inside _ _ _ (c .before .before .before .next-field .ensures) (c .before .value .given .1)
-
-part-rest-end : tie.Need-part-rest-end Inv-loop μ-loop
-part-rest-end c = search needs
-
 enum-told : tie.Need-enum-told Inv-loop μ-loop
 enum-told c = search needs
 
-same-length : tie.Need-same-length Inv-loop μ-loop
-same-length c = c .before .before .before .before .loop .inv .1 .0
-
 returns : tie.Need-returns Inv-loop μ-loop
-returns c = fields-bad _ _ _ _ _ (c .before .before .before .before .loop .inv .1 .1) (omega arith) (c .before .before .next-field .ensures) (c .enum-told .given .1)
-
-add-i : tie.Need-add-i Inv-loop μ-loop
-add-i c = omega arith
-
-loop-less : tie.Need-loop-less Inv-loop μ-loop
-loop-less c = omega arith
+returns c =
+    let (at-loop, at-next-field) : tie.At-loop Inv-loop μ-loop × tie.After-next-field Inv-loop μ-loop = (search, search) in
+    fields-bad _ _ _ _ _ (at-loop .loop .inv .1 .1) (omega arith) (at-next-field .next-field .ensures) (c .enum-told .given .1)
 
 loop-again : tie.Need-loop-again Inv-loop μ-loop
-loop-again c = (omega arith, (simp length-set (omega arith), fields-good _ _ _ _ _ (c .before .before .before .before .before .before .loop .inv .1 .1) _ _ _ (omega arith) (c .before .before .before .before .before .loop-test .taken) (c .before .before .before .before .next-field .ensures) (c .before .before .value .given .1) (part-all (c .before .before .value .given .0 .1 .0) (c .before .before .before .before .before .before .loop .rest .now))))
-
-same-length-2 : tie.Need-same-length-2 Inv-loop μ-loop
-same-length-2 c = c .before .loop .inv .1 .0
-
-returns-2 : tie.Need-returns-2 Inv-loop μ-loop
-returns-2 c = fields-end _ _ _ _ _ (c .before .loop .inv .1 .1) (omega arith) (omega arith)
+loop-again c =
+    let (at-loop, at-loop-test, at-next-field, at-value) : tie.At-loop Inv-loop μ-loop × tie.In-loop Inv-loop μ-loop × tie.After-next-field Inv-loop μ-loop × tie.After-value Inv-loop μ-loop = (search, search, search, search) in
+    (omega arith, (simp length-set (omega arith), fields-good _ _ _ _ _ (at-loop .loop .inv .1 .1) _ _ _ (omega arith) (at-loop-test .loop-test .taken) (at-next-field .next-field .ensures) (at-value .value .given .1) (part-all (at-value .value .given .0 .1 .0) (at-loop .loop .rest .now))))
 
 pub fields-spec : {M : Type 1} → statement M
 fields-spec =
@@ -70,19 +35,19 @@ fields-spec =
     (tie.spec
     Inv-loop
     μ-loop
-    loop-holds
-    next-field-requires
-    enum-known-value
-    mul-out
-    slice-write-out
-    sub-rest
-    part-rest-start
-    part-rest-end
+    (λ c. (omega arith, (refl, fields-start _ _ _)))
+    (λ c κs. search needs)
+    (λ c. search needs)
+    (λ c. omega arith)
+    (λ c. omega arith)
+    (λ c. search field-inside)
+    (λ c. search field-inside)
+    (λ c. search needs)
     enum-told
-    same-length
+    (λ c. search needs)
     returns
-    add-i
-    loop-less
+    (λ c. omega arith)
+    (λ c. omega arith)
     loop-again
-    same-length-2
-    returns-2)
+    (λ c. search needs)
+    (λ c. let at-loop : tie.At-loop Inv-loop μ-loop = search in fields-end _ _ _ _ _ (at-loop .loop .inv .1 .1) (omega arith) (omega arith)))

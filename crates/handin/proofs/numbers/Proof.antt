@@ -12,51 +12,28 @@ use borrow.Author.Needs.{needs}
 use Rattle.handin.proofs.numbers.Statement.{statement}
 use Rattle.handin.proofs.numbers.Tie as tie
 
-scan-requires : tie.Need-scan-requires
-scan-requires c κs = record { one = inl refl }
-
-returns : tie.Need-returns
-returns c = line-long _ _ _ _ (c .before .scan .ensures) (c .if1 .taken)
-
-shared-slice-read-is-mark : tie.Need-shared-slice-read-is-mark
-shared-slice-read-is-mark c = search needs
-
-is-mark-requires : tie.Need-is-mark-requires
-is-mark-requires c κs = search needs
-
 returns-2 : tie.Need-returns-2
-returns-2 c = line-other _ _ _ _ (c .before .before .before .before .scan .ensures) (c .before .before .before .if1 .left) (sym (c .before .is-mark .ensures) ∙ not-true _ (c .if2 .taken))
-
-sub-fields : tie.Need-sub-fields
-sub-fields c = search needs
-
-part-fields-start : tie.Need-part-fields-start
-part-fields-start c = search needs
-
-part-fields-end : tie.Need-part-fields-end
-part-fields-end c = search needs
-
-fields-requires : tie.Need-fields-requires
-fields-requires c κs = search needs
-
-same-length : tie.Need-same-length
-same-length c = search needs
+returns-2 c =
+    let (at-scan, at-if1, at-is-mark) : tie.After-scan × tie.Else1 × tie.After-is-mark = (search, search, search) in
+    line-other _ _ _ _ (at-scan .scan .ensures) (at-if1 .if1 .left) (sym (at-is-mark .is-mark .ensures) ∙ not-true _ (c .if2 .taken))
 
 returns-3 : tie.Need-returns-3
-returns-3 c = line-fields _ _ _ _ (c .before .before .before .before .before .before .before .before .before .scan .ensures) (c .before .before .before .before .before .before .before .before .if1 .left) (sym (c .before .before .before .before .before .before .is-mark .ensures) ∙ not-false _ (c .before .before .before .before .before .if2 .left)) ∙ ap (λ (l : List ℕ). numbersIn (length (c .before .before .before .before .before .before .before .before .before .before .before .before .args .out .now)) (after 9 l)) (sym (part-all 1 (c .before .before .before .before .before .before .before .before .before .before .before .before .args .line .now))) ∙ c .before .before .fields .ensures
+returns-3 c =
+    let (entry, at-scan, at-if1, at-is-mark, at-if2, at-fields) : tie.Start × tie.After-scan × tie.Else1 × tie.After-is-mark × tie.Else2 × tie.After-fields = (search, search, search, search, search, search) in
+    line-fields _ _ _ _ (at-scan .scan .ensures) (at-if1 .if1 .left) (sym (at-is-mark .is-mark .ensures) ∙ not-false _ (at-if2 .if2 .left)) ∙ ap (λ (l : List ℕ). numbersIn (length (entry .args .out .now)) (after 9 l)) (sym (part-all 1 (entry .args .line .now))) ∙ at-fields .fields .ensures
 
 pub numbers-spec : {M : Type 1} → statement M
 numbers-spec =
     tie.close
     (tie.spec
-    scan-requires
-    returns
-    shared-slice-read-is-mark
-    is-mark-requires
+    (λ c κs. record { one = inl refl })
+    (λ c. search line-long)
+    (λ c. search needs)
+    (λ c κs. search needs)
     returns-2
-    sub-fields
-    part-fields-start
-    part-fields-end
-    fields-requires
-    same-length
+    (λ c. search needs)
+    (λ c. search needs)
+    (λ c. search needs)
+    (λ c κs. search needs)
+    (λ c. search needs)
     returns-3)

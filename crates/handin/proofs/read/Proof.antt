@@ -9,67 +9,32 @@ use borrow.Author.Needs.{needs}
 use Rattle.handin.proofs.read.Statement.{statement}
 use Rattle.handin.proofs.read.Tie as tie
 
-refuse-requires : tie.Need-refuse-requires
-refuse-requires c κs = search needs
-
-same-length : tie.Need-same-length
-same-length c = search needs
-
-returns : tie.Need-returns
-returns c = c .before .before .refuse .ensures ∙ read-25 _ (length (c .before .before .before .before .before .before .before .args .words .now)) (omega arith)
-
-refuse-requires-2 : tie.Need-refuse-requires-2
-refuse-requires-2 c κs = search needs
-
-same-length-2 : tie.Need-same-length-2
-same-length-2 c = search needs
-
-returns-2 : tie.Need-returns-2
-returns-2 c = c .before .before .refuse2 .ensures ∙ read-21 (c .before .before .before .before .before .before .before .before .args .text .now) (length (c .before .before .before .before .before .before .before .before .args .words .now)) (omega arith) (omega arith)
-
-fill-requires : tie.Need-fill-requires
-fill-requires c κs = search needs
-
 read-text-requires : tie.Need-read-text-requires
-read-text-requires c κs = (omega (arith, c .before .before .before .fill .kept .0), c .before .before .before .fill .ensures ∙ ap (λ (k : ℕ). replicate k 0) (sym (c .before .before .before .fill .kept .0)))
-
-enum-known-t : tie.Need-enum-known-t
-enum-known-t c = search needs
-
-enum-known-k : tie.Need-enum-known-k
-enum-known-k c = search needs
-
-refuse-requires-3 : tie.Need-refuse-requires-3
-refuse-requires-3 c κs = search needs
-
-same-length-3 : tie.Need-same-length-3
-same-length-3 c = search needs
-
-returns-3 : tie.Need-returns-3
-returns-3 c = read-accepted (c .before .before .before .before .before .before .before .before .before .before .before .before .before .before .before .args .text .now) (length (c .before .before .before .before .before .before .before .before .before .before .before .before .before .before .before .args .words .now)) (omega arith) (omega arith) _ (c .before .before .before .before .before .before .before .before .before .fill .kept .0) _ _ _ _ _ (c .before .before .before .before .before .read-text .ensures) (c .before .t .given .1)
-
-same-length-4 : tie.Need-same-length-4
-same-length-4 c = search needs
+read-text-requires c κs =
+    let at-fill : tie.After-fill = search in
+    (search needs, at-fill .fill .ensures ∙ ap (λ (k : ℕ). replicate k 0) (sym (at-fill .fill .kept .0)))
 
 returns-4 : tie.Need-returns-4
-returns-4 c = c .before .before .refuse3 .ensures ∙ read-refused (c .before .before .before .before .before .before .before .before .before .before .before .before .before .before .before .before .before .before .before .args .text .now) (length (c .before .before .before .before .before .before .before .before .before .before .before .before .before .before .before .before .before .before .before .args .words .now)) (omega arith) (omega arith) _ (c .before .before .before .before .before .before .before .before .before .before .before .before .before .fill .kept .0) _ _ (c .before .before .before .before .before .before .before .before .before .read-text .ensures) (c .before .before .before .before .before .k .given .1)
+returns-4 c =
+    let (entry, at-fill, at-read-text, at-k, at-refuse3) : tie.Start × tie.After-fill × tie.After-read-text × tie.After-k × tie.After-refuse3 = (search, search, search, search, search) in
+    at-refuse3 .refuse3 .ensures ∙ read-refused (entry .args .text .now) (length (entry .args .words .now)) (omega arith) (omega arith) _ (at-fill .fill .kept .0) _ _ (at-read-text .read-text .ensures) (at-k .k .given .1)
 
 pub read-spec : {M : Type 1} → statement M
 read-spec =
     tie.close
     (tie.spec
-    refuse-requires
-    same-length
-    returns
-    refuse-requires-2
-    same-length-2
-    returns-2
-    fill-requires
+    (λ c κs. search needs)
+    (λ c. search needs)
+    (λ c. let (entry, at-refuse) : tie.Start × tie.After-refuse = (search, search) in search (read-25, at-refuse .refuse .ensures))
+    (λ c κs. search needs)
+    (λ c. search needs)
+    (λ c. let (entry, at-refuse2) : tie.Start × tie.After-refuse2 = (search, search) in search (read-21, at-refuse2 .refuse2 .ensures))
+    (λ c κs. search needs)
     read-text-requires
-    enum-known-t
-    enum-known-k
-    refuse-requires-3
-    same-length-3
-    returns-3
-    same-length-4
+    (λ c. search needs)
+    (λ c. search needs)
+    (λ c κs. search needs)
+    (λ c. search needs)
+    (λ c. search read-accepted)
+    (λ c. search needs)
     returns-4)

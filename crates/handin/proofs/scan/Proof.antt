@@ -7,6 +7,7 @@ use native.Mathlib.Omega.{arith}
 use lib.ListN.{length, take}
 use Rattle.handin.specs.Internal.Scanning.{free}
 use Rattle.handin.proofs.Lines.{free-none, free-more, ends-at, ends-last}
+use borrow.Author.Needs.{needs}
 use Rattle.handin.proofs.scan.Statement.{statement}
 use Rattle.handin.proofs.scan.Tie as tie
 
@@ -16,29 +17,15 @@ Inv-loop bytes separator i₀ i = (i ≤ length bytes) × (free separator (take 
 abbrev μ-loop : tie.MeasureT-loop
 μ-loop bytes separator i₀ i = length bytes - i
 
-loop-holds : tie.Need-loop-holds Inv-loop μ-loop
-loop-holds c = (omega arith, free-none _)
-
-shared-slice-read-is-mark : tie.Need-shared-slice-read-is-mark Inv-loop μ-loop
-shared-slice-read-is-mark c = omega arith
-
-is-mark-requires : tie.Need-is-mark-requires Inv-loop μ-loop
-is-mark-requires c κs = c .before .before .before .before .pre
-
 returns : tie.Need-returns Inv-loop μ-loop
-returns c = ends-at _ _ _ (c .before .before .before .loop-test .taken) (c .before .before .before .before .loop .inv .1) (sym (c .before .is-mark .ensures) ∙ c .if1 .taken)
-
-add-i : tie.Need-add-i Inv-loop μ-loop
-add-i c = omega arith
-
-loop-less : tie.Need-loop-less Inv-loop μ-loop
-loop-less c = omega arith
+returns c =
+    let (at-loop, at-loop-test, at-is-mark) : tie.At-loop Inv-loop μ-loop × tie.In-loop Inv-loop μ-loop × tie.After-is-mark Inv-loop μ-loop = (search, search, search) in
+    ends-at _ _ _ (at-loop-test .loop-test .taken) (at-loop .loop .inv .1) (sym (at-is-mark .is-mark .ensures) ∙ c .if1 .taken)
 
 loop-again : tie.Need-loop-again Inv-loop μ-loop
-loop-again c = (omega arith, free-more _ _ _ (c .before .before .before .loop-test .taken) (c .before .before .before .before .loop .inv .1) (sym (c .before .is-mark .ensures) ∙ c .if1 .left))
-
-returns-2 : tie.Need-returns-2 Inv-loop μ-loop
-returns-2 c = ends-last _ _ _ (c .before .loop .inv .0) (c .loop-test .left) (c .before .loop .inv .1)
+loop-again c =
+    let (at-loop, at-loop-test, at-is-mark) : tie.At-loop Inv-loop μ-loop × tie.In-loop Inv-loop μ-loop × tie.After-is-mark Inv-loop μ-loop = (search, search, search) in
+    (omega arith, free-more _ _ _ (at-loop-test .loop-test .taken) (at-loop .loop .inv .1) (sym (at-is-mark .is-mark .ensures) ∙ c .if1 .left))
 
 pub scan-spec : {M : Type 1} → statement M
 scan-spec =
@@ -46,11 +33,11 @@ scan-spec =
     (tie.spec
     Inv-loop
     μ-loop
-    loop-holds
-    shared-slice-read-is-mark
-    is-mark-requires
+    (λ c. (omega arith, free-none _))
+    (λ c. omega arith)
+    (λ c κs. search needs)
     returns
-    add-i
-    loop-less
+    (λ c. omega arith)
+    (λ c. omega arith)
     loop-again
-    returns-2)
+    (λ c. search ends-last))

@@ -6,23 +6,23 @@ use Rattle.handin.proofs.Bytes.{kind-digit, kind-tab, kind-end, kind-le
 use Rattle.handin.proofs.sort.Statement.{statement}
 use Rattle.handin.proofs.sort.Tie as tie
 
-returns : tie.Need-returns
-returns c = kind-tab _ (c .match .keys1)
-
-returns-2 : tie.Need-returns-2
-returns-2 c = kind-end _ (c .match .keys2)
-
-returns-3 : tie.Need-returns-3
-returns-3 c = kind-letter _ (c .match .keys3)
-
-returns-4 : tie.Need-returns-4
-returns-4 c = kind-digit (c .before .before .before .args .b) (omega arith) (omega arith)
-
 returns-5 : tie.Need-returns-5
-returns-5 c = kind-other _ (no-digit (c .before .before .args .b) (inl (omega arith))) (c .before .match .rest .0 .0 .1) (c .before .match .rest .0 .1) (λ e. c .before .match .rest .1 (inl e)) (λ e. c .before .match .rest .1 (inr e))
+returns-5 c =
+    let (entry, at-match) : tie.Start × tie.At-match-rest = (search, search) in
+    kind-other _ (no-digit (entry .args .b) (inl (omega arith))) (at-match .match .rest .0 .0 .1) (at-match .match .rest .0 .1) (λ e. at-match .match .rest .1 (inl e)) (λ e. at-match .match .rest .1 (inr e))
 
 returns-6 : tie.Need-returns-6
-returns-6 c = kind-other _ (no-digit (c .before .before .before .args .b) (inr (omega arith))) (c .before .before .match .rest .0 .0 .1) (c .before .before .match .rest .0 .1) (λ e. c .before .before .match .rest .1 (inl e)) (λ e. c .before .before .match .rest .1 (inr e))
+returns-6 c =
+    let (entry, at-match) : tie.Start × tie.At-match-rest = (search, search) in
+    kind-other _ (no-digit (entry .args .b) (inr (omega arith))) (at-match .match .rest .0 .0 .1) (at-match .match .rest .0 .1) (λ e. at-match .match .rest .1 (inl e)) (λ e. at-match .match .rest .1 (inr e))
 
 pub sort-spec : {M : Type 1} → statement M
-sort-spec = tie.close (tie.spec returns returns-2 returns-3 returns-4 returns-5 returns-6)
+sort-spec =
+    tie.close
+    (tie.spec
+    (λ c. search kind-tab)
+    (λ c. search kind-end)
+    (λ c. search kind-letter)
+    (λ c. search kind-digit)
+    returns-5
+    returns-6)
