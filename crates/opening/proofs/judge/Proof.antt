@@ -12,7 +12,6 @@ use mir.Val.{toZ, ofZ}
 use mir.Facts.{toZ-ofZ}
 use borrow.Author.Tests.{ltb-true}
 use Rattle.io.specs.Counts.{clamped}
-use Rattle.opening.specs.declared.Step.{Step}
 use Rattle.opening.specs.declared.Step.the-variants.{Failed, End, More}
 use Rattle.opening.specs.Input.{stepOf}
 use borrow.Author.Needs.{needs}
@@ -36,26 +35,26 @@ above (negsuc k) room count h other e = absurd (true≢false h)
 
 returns : tie.Need-returns
 returns c =
-    let start = c .before .before in
+    let entry : tie.Start = search in
+    let start = entry in
     let room = length (start .args .buffer .now) in
     below (toZ w64 (ofZ w64 (start .args .got))) room (c .if1 .taken) ∙ ap (λ (z : ℤ). stepOf z room) (toZ-ofZ (start .fits .got))
 
 returns-2 : tie.Need-returns-2
 returns-2 c =
-    let start = c .before .before .before in
+    let entry : tie.Start = search in
+    let start = entry in
     at-zero (start .args .got) (length (start .args .buffer .now)) (sym (toZ-ofZ (start .fits .got)) ∙ ap (toZ w64) (c .if2 .taken))
-
-count-requires : tie.Need-count-requires
-count-requires c κs = search needs
 
 returns-3 : tie.Need-returns-3
 returns-3 c =
-    let start = c .before .before .before .before in
+    let (entry, at-if1, at-if2) : tie.Start × tie.Else1 × tie.Else2 = (search, search, search) in
+    let start = entry in
     let room = length (start .args .buffer .now) in
     let back = toZ-ofZ (start .fits .got) in
-    above (toZ w64 (ofZ w64 (start .args .got))) room (c .count .result) (c .before .before .if1 .left)
-    (λ e. c .before .if2 .left (ap (ofZ w64) (sym back ∙ e))) (c .count .ensures .1)
+    above (toZ w64 (ofZ w64 (start .args .got))) room (c .count .result) (at-if1 .if1 .left)
+    (λ e. at-if2 .if2 .left (ap (ofZ w64) (sym back ∙ e))) (c .count .ensures .1)
     ∙ ap (λ (z : ℤ). stepOf z room) back
 
 pub judge-spec : {M : Type 1} → statement M
-judge-spec = tie.close (tie.spec returns returns-2 count-requires returns-3)
+judge-spec = tie.close (tie.spec returns returns-2 (λ c κs. search needs) returns-3)

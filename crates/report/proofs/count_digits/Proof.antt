@@ -15,21 +15,19 @@ Inv-loop n count₀ rest₀ count rest = (rest ≤ n) × (count + length (digits
 abbrev μ-loop : tie.MeasureT-loop
 μ-loop n count₀ rest₀ count rest = rest
 
-loop-holds : tie.Need-loop-holds Inv-loop μ-loop
-loop-holds c = (omega arith, omega arith)
-
-add-count : tie.Need-add-count Inv-loop μ-loop
-add-count c = omega (arith, at-most-ten (c .before .before .args .n) (omega arith))
-
-loop-less : tie.Need-loop-less Inv-loop μ-loop
-loop-less c = omega arith
-
 loop-again : tie.Need-loop-again Inv-loop μ-loop
-loop-again c = (omega arith, omega (arith, one-more (c .before .loop .rest) (c .loop-test .taken) (omega arith)))
-
-returns : tie.Need-returns Inv-loop μ-loop
-returns c = omega (arith, ap length (digits-one (c .before .loop .rest) (omega arith)))
+loop-again c =
+    let at-loop : tie.At-loop Inv-loop μ-loop = search in
+    (omega arith, omega (arith, one-more (at-loop .loop .rest) (c .loop-test .taken) (omega arith)))
 
 pub count-digits-spec : {M : Type 1} → statement M
 count-digits-spec =
-    tie.close (tie.spec Inv-loop μ-loop loop-holds add-count loop-less loop-again returns)
+    tie.close
+    (tie.spec
+    Inv-loop
+    μ-loop
+    (λ c. (omega arith, omega arith))
+    (λ c. let entry : tie.Start Inv-loop μ-loop = search in omega (arith, at-most-ten (entry .args .n) (omega arith)))
+    (λ c. omega arith)
+    loop-again
+    (λ c. let at-loop : tie.At-loop Inv-loop μ-loop = search in omega (arith, ap length (digits-one (at-loop .loop .rest) (omega arith)))))

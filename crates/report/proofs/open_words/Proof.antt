@@ -14,56 +14,45 @@ use borrow.Author.Needs.{needs}
 use Rattle.report.proofs.open_words.Statement.{statement}
 use Rattle.report.proofs.open_words.Tie as tie
 
-mul-n : tie.Need-mul-n
-mul-n c = search needs
-
-add-n : tie.Need-add-n
-add-n c = search needs
-
-mul-count : tie.Need-mul-count
-mul-count c = search needs
-
-add-count : tie.Need-add-count
-add-count c = search needs
-
 mul-count-2 : tie.Need-mul-count-2
-mul-count-2 c = omega (arith, all-fit (c .before .before .before .args .t) (c .before .before .before .args .d) (c .before .before .before .pre .0 .t-high) (c .before .before .before .pre .0 .d-high))
+mul-count-2 c =
+    let entry : tie.Start = search in
+    omega (arith, all-fit (entry .args .t) (entry .args .d) (entry .pre .0 .t-high) (entry .pre .0 .d-high))
 
 slice-aggregate-open-shares : tie.Need-slice-aggregate-open-shares
-slice-aggregate-open-shares c = sym (length-take-le _ (c .before .before .before .before .args .words .now) (omega (arith, c .before .before .before .before .pre .1 .0, all-fit (c .before .before .before .before .args .t) (c .before .before .before .before .args .d) (c .before .before .before .before .pre .0 .t-high) (c .before .before .before .before .pre .0 .d-high))))
-
-slice-relend-prefix-open-shares : tie.Need-slice-relend-prefix-open-shares
-slice-relend-prefix-open-shares c = search needs
+slice-aggregate-open-shares c =
+    let entry : tie.Start = search in
+    sym (length-take-le _ (entry .args .words .now) (omega (arith, entry .pre .1 .0, all-fit (entry .args .t) (entry .args .d) (entry .pre .0 .t-high) (entry .pre .0 .d-high))))
 
 slice-aggregate-open-shares-2 : tie.Need-slice-aggregate-open-shares-2
-slice-aggregate-open-shares-2 c = sym (length-take-le _ (c .before .before .before .before .before .args .secret .now) (omega (arith, c .before .before .before .before .before .pre .0 .d-high, c .before .before .before .before .before .pre .1 .1 .0)))
+slice-aggregate-open-shares-2 c =
+    let entry : tie.Start = search in
+    sym (length-take-le _ (entry .args .secret .now) (omega (arith, entry .pre .0 .d-high, entry .pre .1 .1 .0)))
 
 open-shares-requires : tie.Need-open-shares-requires
-open-shares-requires c κs = (omega (arith, length-take-le (c .before .before .before .before .before .before .args .d) (c .before .before .before .before .before .before .args .secret .now) (omega (arith, c .before .before .before .before .before .before .pre .0 .d-high, c .before .before .before .before .before .before .pre .1 .1 .0)), c .before .before .before .before .before .before .pre .0 .d-high), c .before .before .before .before .before .before .pre .1 .1 .1)
-
-same-length : tie.Need-same-length
-same-length c = search needs
-
-same-length-2 : tie.Need-same-length-2
-same-length-2 c = search needs
+open-shares-requires c κs =
+    let entry : tie.Start = search in
+    (omega (arith, length-take-le (entry .args .d) (entry .args .secret .now) (omega (arith, entry .pre .0 .d-high, entry .pre .1 .1 .0)), entry .pre .0 .d-high), search needs)
 
 returns : tie.Need-returns
 unfolding size width
-returns c = written-as (ap (λ (n : ℕ). opening (c .before .before .before .before .before .before .before .before .before .before .before .args .t) n (c .before .before .before .before .before .before .before .before .before .before .before .args .present) (c .before .before .before .before .before .before .before .before .before .before .before .args .quorum) (take (size (c .before .before .before .before .before .before .before .before .before .before .before .args .t) * width (c .before .before .before .before .before .before .before .before .before .before .before .args .t) (c .before .before .before .before .before .before .before .before .before .before .before .args .d)) (c .before .before .before .before .before .before .before .before .before .before .before .args .words .now))) (length-take-le (c .before .before .before .before .before .before .before .before .before .before .before .args .d) (c .before .before .before .before .before .before .before .before .before .before .before .args .secret .now) (omega (arith, c .before .before .before .before .before .before .before .before .before .before .before .pre .0 .d-high, c .before .before .before .before .before .before .before .before .before .before .before .pre .1 .1 .0)))) (c .before .before .before .before .open-shares .ensures)
+returns c =
+    let (entry, at-open-shares) : tie.Start × tie.After-open-shares = (search, search) in
+    written-as (ap (λ (n : ℕ). opening (entry .args .t) n (entry .args .present) (entry .args .quorum) (take (size (entry .args .t) * width (entry .args .t) (entry .args .d)) (entry .args .words .now))) (length-take-le (entry .args .d) (entry .args .secret .now) (omega (arith, entry .pre .0 .d-high, entry .pre .1 .1 .0)))) (at-open-shares .open-shares .ensures)
 
 pub open-words-spec : {M : Type 1} → statement M
 open-words-spec =
     tie.close
     (tie.spec
-    mul-n
-    add-n
-    mul-count
-    add-count
+    (λ c. search needs)
+    (λ c. search needs)
+    (λ c. search needs)
+    (λ c. search needs)
     mul-count-2
     slice-aggregate-open-shares
-    slice-relend-prefix-open-shares
+    (λ c. search needs)
     slice-aggregate-open-shares-2
     open-shares-requires
-    same-length
-    same-length-2
+    (λ c. search needs)
+    (λ c. search needs)
     returns)

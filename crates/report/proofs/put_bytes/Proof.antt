@@ -15,35 +15,10 @@ Inv-loop bytes output₀ at i₀ output i = (i ≤ length bytes) × ((length out
 abbrev μ-loop : tie.MeasureT-loop
 μ-loop bytes output₀ at i₀ output i = length bytes - i
 
-loop-holds : tie.Need-loop-holds Inv-loop μ-loop
-loop-holds c = (omega arith, (refl, store-none (c .args .output .now) (c .args .bytes .now) (c .args .at)))
-
-shared-slice-read-output : tie.Need-shared-slice-read-output Inv-loop μ-loop
-shared-slice-read-output c = omega arith
-
-add-output : tie.Need-add-output Inv-loop μ-loop
-add-output c = omega arith
-
-slice-write-output : tie.Need-slice-write-output Inv-loop μ-loop
-slice-write-output c = omega arith
-
-add-i : tie.Need-add-i Inv-loop μ-loop
-add-i c = omega arith
-
-loop-less : tie.Need-loop-less Inv-loop μ-loop
-loop-less c = omega arith
-
-loop-again : tie.Need-loop-again Inv-loop μ-loop
-loop-again c = (omega arith, (simp length-set (omega arith), store-step _ _ _ _ _ (c .before .loop-test .taken) (c .before .before .loop .inv .1 .1)))
-
-add-result : tie.Need-add-result Inv-loop μ-loop
-add-result c = omega arith
-
-same-length : tie.Need-same-length Inv-loop μ-loop
-same-length c = omega arith
-
 returns : tie.Need-returns Inv-loop μ-loop
-returns c = record { stored = store-all _ _ _ _ _ (c .loop-test .left) (c .before .loop .inv .1 .1); next = omega arith; fits = omega arith }
+returns c =
+    let at-loop : tie.At-loop Inv-loop μ-loop = search in
+    record { stored = store-all _ _ _ _ _ (c .loop-test .left) (at-loop .loop .inv .1 .1); next = omega arith; fits = omega arith }
 
 pub put-bytes-spec : {M : Type 1} → statement M
 put-bytes-spec =
@@ -51,13 +26,13 @@ put-bytes-spec =
     (tie.spec
     Inv-loop
     μ-loop
-    loop-holds
-    shared-slice-read-output
-    add-output
-    slice-write-output
-    add-i
-    loop-less
-    loop-again
-    add-result
-    same-length
+    (λ c. (omega arith, (refl, search store-none)))
+    (λ c. omega arith)
+    (λ c. omega arith)
+    (λ c. omega arith)
+    (λ c. omega arith)
+    (λ c. omega arith)
+    (λ c. (omega arith, (simp length-set (omega arith), search store-step)))
+    (λ c. omega arith)
+    (λ c. omega arith)
     returns)

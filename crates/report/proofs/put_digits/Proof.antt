@@ -13,47 +13,25 @@ Inv-loop n output₀ at end i₀ rest₀ output i rest = Left n at output₀ out
 abbrev μ-loop : tie.MeasureT-loop
 μ-loop n output₀ at end i₀ rest₀ output i rest = rest
 
-count-digits-requires : tie.Need-count-digits-requires Inv-loop μ-loop
-count-digits-requires c κs = tt
-
-add-end : tie.Need-add-end Inv-loop μ-loop
-add-end c = omega arith
-
-loop-holds : tie.Need-loop-holds Inv-loop μ-loop
-loop-holds c = record { fits = omega arith; place = omega arith; inside = omega arith; long = refl; stores = refl }
-
 sub-i : tie.Need-sub-i Inv-loop μ-loop
-sub-i c = omega (arith, c .before .loop .inv .place, one-more (c .before .loop .rest) (c .loop-test .taken) (c .before .loop .inv .fits))
-
-cast-output : tie.Need-cast-output Inv-loop μ-loop
-cast-output c = omega arith
-
-add-output : tie.Need-add-output Inv-loop μ-loop
-add-output c = omega arith
+sub-i c =
+    let at-loop : tie.At-loop Inv-loop μ-loop = search in
+    omega (arith, at-loop .loop .inv .place, one-more (at-loop .loop .rest) (c .loop-test .taken) (at-loop .loop .inv .fits))
 
 slice-write-output : tie.Need-slice-write-output Inv-loop μ-loop
-slice-write-output c = omega (arith, c .before .loop .inv .place, c .before .loop .inv .inside, c .before .loop .inv .long, one-more (c .before .loop .rest) (c .loop-test .taken) (c .before .loop .inv .fits))
-
-loop-less : tie.Need-loop-less Inv-loop μ-loop
-loop-less c = omega arith
-
-loop-again : tie.Need-loop-again Inv-loop μ-loop
-loop-again c = left-next _ _ _ _ _ _ (c .loop-test .taken) (c .before .loop .inv)
-
-cast-output-2 : tie.Need-cast-output-2 Inv-loop μ-loop
-cast-output-2 c = omega arith
-
-add-output-2 : tie.Need-add-output-2 Inv-loop μ-loop
-add-output-2 c = omega arith
+slice-write-output c =
+    let at-loop : tie.At-loop Inv-loop μ-loop = search in
+    omega (arith, at-loop .loop .inv .place, at-loop .loop .inv .inside, at-loop .loop .inv .long, one-more (at-loop .loop .rest) (c .loop-test .taken) (at-loop .loop .inv .fits))
 
 slice-write-output-2 : tie.Need-slice-write-output-2 Inv-loop μ-loop
-slice-write-output-2 c = omega (arith, c .before .loop .inv .place, c .before .loop .inv .inside, c .before .loop .inv .long, ap length (digits-one (c .before .loop .rest) (omega arith)))
-
-same-length : tie.Need-same-length Inv-loop μ-loop
-same-length c = simp length-set (omega arith)
+slice-write-output-2 c =
+    let at-loop : tie.At-loop Inv-loop μ-loop = search in
+    omega (arith, at-loop .loop .inv .place, at-loop .loop .inv .inside, at-loop .loop .inv .long, ap length (digits-one (at-loop .loop .rest) (omega arith)))
 
 returns : tie.Need-returns Inv-loop μ-loop
-returns c = record { stored = left-last _ _ _ _ _ _ (c .loop-test .left) (c .before .loop .inv); next = omega arith; fits = omega arith }
+returns c =
+    let at-loop : tie.At-loop Inv-loop μ-loop = search in
+    record { stored = left-last _ _ _ _ _ _ (c .loop-test .left) (at-loop .loop .inv); next = omega arith; fits = omega arith }
 
 pub put-digits-spec : {M : Type 1} → statement M
 put-digits-spec =
@@ -61,17 +39,17 @@ put-digits-spec =
     (tie.spec
     Inv-loop
     μ-loop
-    count-digits-requires
-    add-end
-    loop-holds
+    (λ c κs. tt)
+    (λ c. omega arith)
+    (λ c. record { fits = omega arith; place = omega arith; inside = omega arith; long = refl; stores = refl })
     sub-i
-    cast-output
-    add-output
+    (λ c. omega arith)
+    (λ c. omega arith)
     slice-write-output
-    loop-less
-    loop-again
-    cast-output-2
-    add-output-2
+    (λ c. omega arith)
+    (λ c. search left-next)
+    (λ c. omega arith)
+    (λ c. omega arith)
     slice-write-output-2
-    same-length
+    (λ c. simp length-set (omega arith))
     returns)

@@ -9,19 +9,16 @@ use borrow.Author.Needs.{needs}
 use Rattle.report.proofs.put_refused.Statement.{statement}
 use Rattle.report.proofs.put_refused.Tie as tie
 
-slice-aggregate-put-line : tie.Need-slice-aggregate-put-line
-slice-aggregate-put-line c = search needs
-
 put-line-requires : tie.Need-put-line-requires
-put-line-requires c κs = omega (arith, field-short (c .before .before .before .args .number) (omega arith), field-short (c .before .before .before .args .survivors) (omega arith))
-
-same-length : tie.Need-same-length
-same-length c = search needs
-
-returns : tie.Need-returns
-unfolding ascii lineOfTwo line
-returns c = c .before .before .put-line .ensures
+put-line-requires c κs =
+    let entry : tie.Start = search in
+    omega (arith, field-short (entry .args .number) (omega arith), field-short (entry .args .survivors) (omega arith))
 
 pub put-refused-spec : {M : Type 1} → statement M
 put-refused-spec =
-    tie.close (tie.spec slice-aggregate-put-line put-line-requires same-length returns)
+    tie.close
+    (tie.spec
+    (λ c. search needs)
+    put-line-requires
+    (λ c. search needs)
+    (λ c. unfold ascii lineOfTwo line in search needs))
