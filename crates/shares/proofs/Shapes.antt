@@ -1,6 +1,6 @@
 -- Laws of a station's shape.
 -- Assumes nothing.
-use mathlib.Core.Path.{_≡_, refl, sym, ap, _∙_}
+use mathlib.Core.Path.{_≡_, refl, sym, ap, subst}
 use mathlib.Core.Bool.{true}
 use mathlib.Core.List.{List}
 use Prim.Native.Nat.{ℕ, _+_, _*_, _≤_, _<_}
@@ -35,6 +35,9 @@ station t d r =
       narrow = omega (arith, r .t-high, r .d-high);
       all-fit = all-fit t d (r .t-high) (r .d-high);
     }
+
+pub station-of : (t d : ℕ) (s : Shape) → InRange t d → s ≡ shapeOf t d → Station s
+station-of t d s r e = subst (λ (x : Shape). Station x) (sym e) (station t d r)
 
 -- the words of a station's shares
 pub room : (t d : ℕ) (words : List ℕ) → InRange t d → length words ≡ size t * width t d → Room (shapeOf t d) words

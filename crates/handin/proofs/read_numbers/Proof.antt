@@ -1,48 +1,45 @@
--- `handin::read_numbers` meets its contract: t and d are in range, and the P lines are taken.
+-- With t and d in range the P lines are taken in the shape for t and d, and their answer is the text's.
 -- Assumes nothing.
-use mathlib.Core.Path.{_∙_}
 use native.Mathlib.Omega.{arith}
 use borrow.Author.Needs.{needs}
 use lib.ListN.{getD}
 use Rattle.lists.proofs.Bools.{fails, passes}
-use Rattle.handin.specs.Internal.Progress.{InRange}
-use Rattle.handin.proofs.Taking.{in-range, width-is, scratch-length}
+use Rattle.shares.specs.Internal.Shape.{InRange, Station}
+use Rattle.shares.proofs.Shapes.{in-range, station-of}
+use Rattle.handin.proofs.Taking.{scratch-length}
 use Rattle.handin.proofs.Reading.{first-t, first-d, first-in}
 use Rattle.handin.proofs.read_numbers.Statement.{statement}
 use Rattle.handin.proofs.read_numbers.Tie as tie
 
 -- t and d are in range where both tests passed
 range : (c : tie.Else2) → let entry : tie.Start = search in InRange (getD (entry .args .first .now) 0 0) (getD (entry .args .first .now) 1 0)
-range c =
-    let (at-threshold, at-if1, at-within) : tie.After-threshold × tie.Else1 × tie.After-within = (search, search, search) in
-    in-range _ _ (passes _ _ (at-threshold .threshold .ensures) (at-if1 .if1 .left)) (passes _ _ (at-within .within .ensures) (c .if2 .left))
+range c = search (in-range, passes)
 
-returns-3 : tie.Need-returns-3
-returns-3 c =
-    let (at-threshold, at-if1, at-within, at-if2, at-take-lines) : tie.After-threshold × tie.Else1 × tie.After-within × tie.Else2 × tie.After-take-lines = (search, search, search, search, search) in
-    at-take-lines .take-lines .ensures ∙ first-in _ _ _ (passes _ _ (at-threshold .threshold .ensures) (at-if1 .if1 .left)) (passes _ _ (at-within .within .ensures) (at-if2 .if2 .left))
+shape : (c : tie.After-shape-of) → Station (c .shape-of .result)
+shape c = search (station-of, range)
 
 pub read-numbers-spec : {M : Type 1} → statement M
 read-numbers-spec =
     tie.close
     (tie.spec
+    -- let t = first[0] as usize; let d = first[1] as usize;
     (λ c. search needs)
     (λ c. omega (arith, c .shared-slice-known3 .given 0))
     (λ c. search needs)
     (λ c. omega (arith, c .shared-slice-known4 .given 1))
+    -- the two tests
     (λ c κs. search needs)
     (λ c. search (fails, first-t))
     (λ c κs. search needs)
     (λ c. search (fails, passes, first-d))
-    (λ c. omega (arith, range c .t-high))
-    (λ c. omega (arith, range c .t-high))
-    (λ c. omega (arith, range c .t-high))
-    (λ c. omega (arith, range c .t-high, range c .d-high))
-    (λ c. omega (arith, range c .t-high, range c .d-high))
+    -- let s = shares::shape_of(t, d); let k = 1 + s.width;
+    (λ c κs. search range)
+    (λ c. let s : tie.After-shape-of = search in omega (arith, shape s .narrow))
+    -- take_lines(text, s, first[2], &mut scratch[..k], words)
     (λ c. search needs)
-    (λ c. let at-if2 : tie.Else2 = search in omega (arith, range at-if2 .t-high, range at-if2 .d-high))
-    (λ c. search (scratch-length, range))
-    (λ c κs. (search range, ((search (width-is, scratch-length, range), search needs), search needs)))
+    (λ c. let s : tie.After-shape-of = search in omega (arith, shape s .narrow))
+    (λ c. search (scratch-length, shape))
+    (λ c κs. (search shape, ((search (scratch-length, shape), search needs), search needs)))
     (λ c. search needs)
     (λ c. search needs)
-    returns-3)
+    (λ c. search (passes, first-in)))

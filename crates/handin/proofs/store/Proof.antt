@@ -1,16 +1,14 @@
--- `handin::store` meets its contract. The loop's invariant: storing what is left comes to storing all.
+-- The first i words are stored, and at the end all of them.
 -- Assumes nothing.
-use mathlib.Core.Path.{_≡_, refl}
-use Prim.Native.Nat.{_+_, _≤_, _-_}
+use Prim.Native.Nat.{_-_}
 use native.Mathlib.Omega.{arith}
-use lib.ListN.{length, drop, length-set}
-use lib.Seq.{sets}
-use Rattle.handin.proofs.Buffers.{store-none, store-step, store-all}
+use lib.ListN.{length}
+use Rattle.lists.proofs.Stores.{Copied, copied-first, copied-next, copied-last}
 use Rattle.handin.proofs.store.Statement.{statement}
 use Rattle.handin.proofs.store.Tie as tie
 
 abbrev Inv-loop : tie.InvT-loop
-Inv-loop share words₀ at i₀ words i = (i ≤ length share) × ((length words ≡ length words₀) × (sets words (at + i) (drop i share) ≡ sets words₀ at share))
+Inv-loop share words₀ at i₀ words i = Copied share words₀ at words i
 
 abbrev μ-loop : tie.MeasureT-loop
 μ-loop share words₀ at i₀ words i = length share - i
@@ -21,14 +19,16 @@ store-spec =
     (tie.spec
     Inv-loop
     μ-loop
-    (λ c. (omega arith, (refl, search store-none)))
+    (λ c. search copied-first)
+    -- words[at + i] = share[i];
     (λ c. omega arith)
     (λ c. omega arith)
     (λ c. omega arith)
     (λ c. omega arith)
     (λ c. omega arith)
+    -- i += 1;
     (λ c. omega arith)
     (λ c. omega arith)
-    (λ c. (omega arith, (simp length-set (omega arith), search store-step)))
+    (λ c. search copied-next)
     (λ c. omega arith)
-    (λ c. search store-all))
+    (λ c. search copied-last))

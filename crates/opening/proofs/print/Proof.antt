@@ -1,8 +1,8 @@
--- `opening::print` is safe and ends: what is printed is in the buffer.
+-- What is printed is in the buffer, so the part that is written out is inside it.
 -- Assumes nothing.
 use mathlib.Core.Path.{sym}
 use lib.Seq.{length-take-le}
-use Rattle.report.proofs.Writing.{reported-inside}
+use Rattle.report.proofs.Lines.{reported-inside}
 use borrow.Author.Needs.{needs}
 use Rattle.opening.proofs.print.Statement.{statement}
 use Rattle.opening.proofs.print.Tie as tie

@@ -1,4 +1,4 @@
--- `opening::run` is safe and ends: the bytes that were read are in the buffer.
+-- The bytes that were read are in the buffer, so the part that is opened is inside it.
 -- Assumes nothing.
 use mathlib.Core.Path.{_≡_, sym, subst}
 use Prim.Native.Nat.{ℕ, _≤_}
@@ -16,19 +16,17 @@ inside r n before after same e h =
     let b : n ≤ before = subst (λ (r : Input). Inside r before) e h in
     omega arith
 
-slice-aggregate-print : tie.Need-slice-aggregate-print
-slice-aggregate-print c =
-    let (at-read-input, at-n) : tie.After-read-input × tie.After-n = (search, search) in
-    sym (length-take-le _ _ (inside _ _ _ _ (at-read-input .read-input .kept .0) (at-n .n .given .1) (at-read-input .read-input .ensures)))
-
 pub run-spec : {M : Type 1} → statement M
 run-spec =
     tie.close
     (tie.spec
     (λ c κs. search needs)
     (λ c. search needs)
+    -- Input::Bytes(n) => print(&text[..n])
     (λ c. search inside)
-    slice-aggregate-print
+    (λ c.
+    let (done, read) : tie.After-read-input × tie.After-n = (search, search) in
+    sym (length-take-le _ _ (inside _ _ _ _ (done .read-input .kept .0) (read .n .given .1) (done .read-input .ensures))))
     (λ c κs. search needs)
     (λ c. search needs)
     (λ c. search needs)

@@ -1,6 +1,6 @@
--- `report::open_shares` meets its contract: what opening answers is printed.
+-- What opening answers is printed: the secret, or the refusal with its survivors.
 -- Assumes nothing.
-use Rattle.report.proofs.Writing.{written-as}
+use Rattle.text.proofs.Writing.{written-as}
 use Rattle.report.proofs.Opening.{prints-open, prints-refused}
 use borrow.Author.Needs.{needs}
 use Rattle.report.proofs.open_shares.Statement.{statement}

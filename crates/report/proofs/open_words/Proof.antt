@@ -1,58 +1,40 @@
--- `report::open_words` meets its contract: the shares' words, and the secret buffer's first d words, are opened.
+-- The shares of a station in range fit the reader's buffer, and its secret the secret buffer, so both are lent as long as they are.
 -- Assumes nothing.
-use mathlib.Core.Path.{sym, ap}
+use mathlib.Core.Path.{sym}
 use native.Mathlib.Omega.{arith}
-use Prim.Native.Nat.{ℕ, _*_}
-use lib.ListN.{take}
+use Prim.Native.Nat.{_≤_}
+use lib.ListN.{length}
 use lib.Seq.{length-take-le}
-use Rattle.members.specs.Members.{size}
-use Rattle.shares.specs.Layout.{width}
-use Rattle.shares.proofs.Places.{all-fit}
-use Rattle.report.specs.Internal.Writing.{opening}
-use Rattle.report.proofs.Writing.{written-as}
+use Rattle.shares.specs.Internal.Shape.{Station}
+use Rattle.shares.proofs.Shapes.{station-of}
+use Rattle.report.proofs.Reading.{opens-front}
 use borrow.Author.Needs.{needs}
 use Rattle.report.proofs.open_words.Statement.{statement}
 use Rattle.report.proofs.open_words.Tie as tie
 
-mul-count-2 : tie.Need-mul-count-2
-mul-count-2 c =
-    let entry : tie.Start = search in
-    omega (arith, all-fit (entry .args .t) (entry .args .d) (entry .pre .0 .t-high) (entry .pre .0 .d-high))
+shape : (c : tie.After-shape-of) → Station (c .shape-of .result)
+shape c = search station-of
 
-slice-aggregate-open-shares : tie.Need-slice-aggregate-open-shares
-slice-aggregate-open-shares c =
-    let entry : tie.Start = search in
-    sym (length-take-le _ (entry .args .words .now) (omega (arith, entry .pre .1 .0, all-fit (entry .args .t) (entry .args .d) (entry .pre .0 .t-high) (entry .pre .0 .d-high))))
-
-slice-aggregate-open-shares-2 : tie.Need-slice-aggregate-open-shares-2
-slice-aggregate-open-shares-2 c =
-    let entry : tie.Start = search in
-    sym (length-take-le _ (entry .args .secret .now) (omega (arith, entry .pre .0 .d-high, entry .pre .1 .1 .0)))
-
-open-shares-requires : tie.Need-open-shares-requires
-open-shares-requires c κs =
-    let entry : tie.Start = search in
-    (omega (arith, length-take-le (entry .args .d) (entry .args .secret .now) (omega (arith, entry .pre .0 .d-high, entry .pre .1 .1 .0)), entry .pre .0 .d-high), search needs)
-
-returns : tie.Need-returns
-unfolding size width
-returns c =
-    let (entry, at-open-shares) : tie.Start × tie.After-open-shares = (search, search) in
-    written-as (ap (λ (n : ℕ). opening (entry .args .t) n (entry .args .present) (entry .args .quorum) (take (size (entry .args .t) * width (entry .args .t) (entry .args .d)) (entry .args .words .now))) (length-take-le (entry .args .d) (entry .args .secret .now) (omega (arith, entry .pre .0 .d-high, entry .pre .1 .1 .0)))) (at-open-shares .open-shares .ensures)
+-- the secret buffer has room for d words
+room : (c : tie.Start) → c .args .d ≤ length (c .args .secret .now)
+room c = omega (arith, c .pre .0 .d-high, c .pre .1 .1 .0)
 
 pub open-words-spec : {M : Type 1} → statement M
 open-words-spec =
     tie.close
     (tie.spec
+    -- let s = shares::shape_of(t, d); let count = s.n * s.width;
+    (λ c κs. search needs)
+    (λ c. let s : tie.After-shape-of = search in omega (arith, shape s .all-fit))
+    -- open_shares(t, present, quorum, &words[..count], &mut secret[..d], output)
+    (λ c.
+    let (entry, s) : tie.Start × tie.After-shape-of = (search, search) in
+    sym (length-take-le _ (entry .args .words .now) (omega (arith, entry .pre .1 .0, shape s .all-fit))))
+    (λ c. search room)
+    (λ c. let entry : tie.Start = search in sym (length-take-le _ (entry .args .secret .now) (room entry)))
+    (λ c κs.
+    let entry : tie.Start = search in
+    (omega (arith, length-take-le (entry .args .d) (entry .args .secret .now) (room entry), entry .pre .0 .d-high), search needs))
     (λ c. search needs)
     (λ c. search needs)
-    (λ c. search needs)
-    (λ c. search needs)
-    mul-count-2
-    slice-aggregate-open-shares
-    (λ c. search needs)
-    slice-aggregate-open-shares-2
-    open-shares-requires
-    (λ c. search needs)
-    (λ c. search needs)
-    returns)
+    (λ c. search (opens-front, room)))

@@ -1,6 +1,6 @@
--- `report::print_text` meets its contract: what the reader answers is printed.
+-- What the reader answers is printed: its shares are opened, or its refusal is told.
 -- Assumes nothing.
-use Rattle.report.proofs.Writing.{written-as}
+use Rattle.text.proofs.Writing.{written-as}
 use Rattle.report.proofs.Reading.{accepted-range, prints-accepted, prints-unread}
 use borrow.Author.Needs.{needs}
 use Rattle.report.proofs.print_text.Statement.{statement}

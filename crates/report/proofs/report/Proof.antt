@@ -1,6 +1,6 @@
--- `report::report` meets its contract. It lends the reader's buffer and the secret buffer.
+-- It lends the buffers of the reader and of the secret, and what is written from the front on is the answer.
 -- Assumes nothing.
-use Rattle.report.proofs.Writing.{written-front, written-count}
+use Rattle.text.proofs.Writing.{written-front, written-count}
 use borrow.Author.Needs.{needs}
 use Rattle.report.proofs.report.Statement.{statement}
 use Rattle.report.proofs.report.Tie as tie
