@@ -17,8 +17,8 @@ use Rattle.lists.proofs.StoredBlocks.{sets-block, concat-replicate}
 use Rattle.members.specs.Members.{size, has, adding}
 use Rattle.members.proofs.Masks.{has-setOf}
 use Rattle.members.proofs.Words.{setOf-more, setOf-none}
-use Rattle.shares.specs.Layout.{width}
-use Rattle.handin.specs.Reader.{Share, capacity, shareOf, isSome, wordsOr, placed}
+use Rattle.shares.specs.Layout.{width, capacity}
+use Rattle.handin.specs.Reader.{Share, shareOf, isSome, wordsOr, placed}
 use Rattle.handin.specs.Internal.Progress.{Holds}
 
 -- the share taken last, and the others
@@ -65,7 +65,8 @@ module _ (t d : ℕ) (taken : List Share) (present : ℕ) (words : List ℕ) (h 
             (λ j k ne. ap isSome (share-other s taken j ne));
         stored =
             ap₂ (λ (b v : List ℕ). sets b (i * width t d) v) (h .stored) (sym mine)
-            ∙ sets-block (size t) (width t d) i (λ j. wordsOr zeros (shareOf taken j)) (λ j. wordsOr zeros (shareOf (s ∷ taken) j)) (replicate (capacity - size t * width t d) 0) l (λ j k. h .wide j) (ap length mine ∙ len)
+            ∙ sets-block (size t) (width t d) i (λ j. wordsOr zeros (shareOf taken j)) (λ j. wordsOr zeros (shareOf (s ∷ taken) j))
+            (replicate (capacity - size t * width t d) 0) l (λ j k. h .wide j) (ap length mine ∙ len)
             (λ j k ne. ap (wordsOr zeros) (share-other s taken j ne));
         wide = λ j. elim (test (eqb i j)) [
           | inl e ↦ rw (share-same s taken j (eqb-true i j e)) len

@@ -14,11 +14,11 @@ use Rattle.lists.specs.Tabulate.{each}
 use Rattle.lists.proofs.Bools.{test}
 use Rattle.lists.proofs.Checks.{check-fails, check-passes, all-passed, number-fits}
 use Rattle.members.specs.Members.{size, isThreshold}
-use Rattle.shares.specs.Layout.{width, isLength}
-use Rattle.handin.specs.Lines.{parts, lineOf}
-use Rattle.handin.specs.Reader.{HandIn, Share, shareOf, isSome, Taken, shares, refused, capacity, takeShare, takeNumbers, takeLine, takeLines, unread, readFrom, readNumbers, readLines, read}
-use Rattle.handin.specs.Internal.Progress.{InRange}
-use Rattle.handin.proofs.Taking.{in-range}
+use Rattle.shares.specs.Layout.{width, isLength, capacity}
+use Rattle.shares.specs.Internal.Shape.{InRange}
+use Rattle.shares.proofs.Shapes.{in-range}
+use Rattle.text.specs.Lines.{parts, lineOf}
+use Rattle.handin.specs.Reader.{HandIn, Share, shareOf, isSome, Taken, shares, refused, takeShare, takeNumbers, takeLine, takeLines, unread, readFrom, readNumbers, readLines, read}
 
 -- a refusal's number is not 0, and fits a word
 record Told (k : ℕ) : Type 0 where

@@ -1,122 +1,101 @@
 -- Laws of P lines as the code takes them.
 -- Assumes nothing.
 use mathlib.Core.Path.{_≡_, refl, sym, ap, ap₂, _∙_}
-use mathlib.Core.Bool.{Bool, true, false, cond}
+use mathlib.Core.Bool.{Bool, true, false}
 use mathlib.Core.Option.{none, some}
 use mathlib.Core.List.{List, _∷_}
 use Prim.Native.Nat.{ℕ, _+_, _-_, _*_, _≤_, _<_}
-use native.Mathlib.Nat.{le-trans}
 use native.Mathlib.Omega.{arith}
 use lib.ListN.{length, getD, take, drop, length-drop}
 use lib.Seq.{sets, length-take-le}
 use Rattle.lists.specs.Checks.{within}
 use Rattle.lists.proofs.Checks.{within-low, within-high}
-use Rattle.members.specs.Members.{isThreshold, size, has, adding}
-use Rattle.members.proofs.Words.{size-31}
-use Rattle.shares.specs.Layout.{isLength, width}
-use Rattle.shares.proofs.Places.{row-inside, all-fit}
-use Rattle.handin.specs.Lines.{lineOf}
+use Rattle.lists.proofs.Stores.{part-all}
+use Rattle.members.specs.Members.{size, has, adding}
+use Rattle.shares.specs.Layout.{width, capacity}
+use Rattle.shares.specs.Internal.Shape.{Station, At}
+use Rattle.shares.specs.declared.Shape.{Shape}
+use Rattle.text.specs.Lines.{lineOf}
 use Rattle.handin.specs.Reader.{Share, shareOf, isSome, shares, takeShare, takeNumbers, takeLine}
-use Rattle.handin.specs.Internal.Progress.{InRange, Holds, Comes}
+use Rattle.handin.specs.Internal.Progress.{Holds, Comes}
 use Rattle.handin.specs.declared.Line.{Line}
 use Rattle.handin.specs.declared.Line.the-variants.{Accepted, Refused}
-use Rattle.handin.proofs.FieldLaws.{part-all}
 use Rattle.handin.proofs.Placing.{holds-met, holds-more}
 
--- t and d that passed their tests
-pub in-range : (t d : ℕ) → isThreshold t ≡ true → isLength d ≡ true → InRange t d
-in-range t d p q = record { t-low = within-low 1 15 t p; t-high = within-high 1 15 t p; d-low = within-low 1 64 d q; d-high = within-high 1 64 d q }
+-- a member that is one of 1 to n, counted from 0
+pub member-inside : (n m : ℕ) → within 1 n m ≡ true → m - 1 < n
+member-inside n m one = omega (arith, within-low 1 n m one, within-high 1 n m one)
 
--- a share's place ends in the buffer
-pub place-end : (t d i : ℕ) → InRange t d → i < 2 * t + 1 → i * (d + 3 * (2 * t + 1)) + (d + 3 * (2 * t + 1)) ≤ 4867
-place-end t d i r h = le-trans (row-inside i (2 * t + 1) (d + 3 * (2 * t + 1)) h) (all-fit t d (r .t-high) (r .d-high))
+module _ (s : Shape) (st : Station s) where
+  -- a share's place ends in the buffer
+  pub share-fits : (i at : ℕ) (ns words : List ℕ) → At s i 0 (s .width) at → length ns ≡ 1 + s .width → length words ≡ capacity
+      → at + length (take (length ns - 1) (drop 1 ns)) ≤ length words
+  share-fits i at ns words place len all =
+      let e : length (take (length ns - 1) (drop 1 ns)) ≡ length ns - 1 = ap length (part-all 1 ns) ∙ length-drop 1 ns in
+      omega (arith, e, place .inside, st .all-fit)
 
-pub member-end : (t d m : ℕ) → InRange t d → within 1 (2 * t + 1) m ≡ true → (m - 1) * (d + 3 * (2 * t + 1)) + (d + 3 * (2 * t + 1)) ≤ 4867
-member-end t d m r one = place-end t d (m - 1) r (omega (arith, within-low 1 (2 * t + 1) m one, within-high 1 (2 * t + 1) m one))
+  -- a P line's numbers fit 158 words
+  pub scratch-length : (l : List ℕ) → length l ≡ 158 → length (take (1 + s .width) l) ≡ 1 + s .width
+  scratch-length l e = length-take-le (1 + s .width) l (omega (arith, st .narrow, e))
 
-pub width-is : (t d : ℕ) → width t d ≡ d + 3 * (2 * t + 1)
-unfolding width size
-width-is t d = refl
+  module _ (present : ℕ) (ns words ws : List ℕ) where
+    one-of : {b : Bool} → within 1 (s .n) (getD ns 0 0) ≡ b → within 1 (size (s .t)) (getD ns 0 0) ≡ b
+    one-of e = ap (λ (n : ℕ). within 1 n (getD ns 0 0)) (sym (st .members)) ∙ e
 
-pub share-fits :
-    (t d m : ℕ) (ns words : List ℕ)
-    → InRange t d
-    → within 1 (2 * t + 1) m ≡ true
-    → length ns ≡ 1 + width t d
-    → length words ≡ 4867
-    → (m - 1) * (d + 3 * (2 * t + 1)) + length (take (length ns - 1) (drop 1 ns)) ≤ length words
-share-fits t d m ns words r one len all =
-    let e : length (take (length ns - 1) (drop 1 ns)) ≡ length ns - 1 = ap length (part-all 1 ns) ∙ length-drop 1 ns in
-    omega (arith, e, width-is t d, member-end t d m r one)
+    -- a member that is not one of 1 to n
+    pub take-out : within 1 (s .n) (getD ns 0 0) ≡ false → (taken : List Share) → Holds (s .t) (s .d) taken present words
+        → Comes (s .t) (s .d) (takeNumbers (s .t) taken (some ns)) (Refused 24) ws
+    unfolding Comes takeNumbers takeShare
+    take-out h taken holds = rw (one-of h)
 
-module _ (t d present : ℕ) (ns words ws : List ℕ) where
-  -- a member that is not one of 1 to n
-  pub take-out : within 1 (2 * t + 1) (getD ns 0 0) ≡ false → (taken : List Share) → Holds t d taken present words → Comes t d (takeNumbers t taken (some ns)) (Refused 24) ws
-  unfolding Comes takeNumbers takeShare size
-  take-out h taken s = rw h
+    module _ (one : within 1 (s .n) (getD ns 0 0) ≡ true) where
+      inside : getD ns 0 0 - 1 < size (s .t)
+      inside = member-inside (size (s .t)) (getD ns 0 0) (one-of one)
 
-  module _ (one : within 1 (2 * t + 1) (getD ns 0 0) ≡ true) where
-    inside : getD ns 0 0 - 1 < size t
-    unfolding size
-    inside = omega (arith, within-low 1 (2 * t + 1) (getD ns 0 0) one, within-high 1 (2 * t + 1) (getD ns 0 0) one)
+      -- one that was met before
+      pub take-met : {b : Bool} → b ≡ has present (getD ns 0 0 - 1) → b ≡ true → (taken : List Share) → Holds (s .t) (s .d) taken present words
+          → Comes (s .t) (s .d) (takeNumbers (s .t) taken (some ns)) (Refused 24) ws
+      unfolding Comes takeNumbers takeShare
+      take-met e h taken holds =
+          let met : isSome (shareOf taken (getD ns 0 0 - 1)) ≡ true =
+          sym (holds-met (s .t) (s .d) taken present words holds (getD ns 0 0 - 1) inside) ∙ sym e ∙ h in
+          rw (one-of one, met)
 
-    -- one that was met before
-    pub take-met : has present (getD ns 0 0 - 1) ≡ true → (taken : List Share) → Holds t d taken present words → Comes t d (takeNumbers t taken (some ns)) (Refused 24) ws
-    unfolding Comes takeNumbers takeShare size
-    take-met h taken s =
-        let b : isSome (shareOf taken (getD ns 0 0 - 1)) ≡ true = sym (holds-met t d taken present words s (getD ns 0 0 - 1) inside) ∙ h in
-        rw (one, b)
+      accepted : (taken : List Share) (share : List ℕ) → isSome (shareOf taken (getD ns 0 0 - 1)) ≡ false
+          → takeShare (s .t) taken (getD ns 0 0) share ≡ shares (record { member = getD ns 0 0 - 1; words = share } ∷ taken)
+      unfolding takeShare
+      accepted taken share b = rw (one-of one, b)
 
-    accepted : (taken : List Share) (words : List ℕ) → isSome (shareOf taken (getD ns 0 0 - 1)) ≡ false → takeShare t taken (getD ns 0 0) words ≡ shares (record { member = getD ns 0 0 - 1; words = words } ∷ taken)
-    unfolding takeShare size
-    accepted taken words b = rw (one, b)
+      -- one that was not: its share is stored
+      pub take-in : {b : Bool} (at m : ℕ) → b ≡ has present (getD ns 0 0 - 1) → b ≡ false → length ns ≡ 1 + s .width
+          → At s (getD ns 0 0 - 1) 0 (s .width) at → ws ≡ sets words at (take (length ns - 1) (drop 1 ns)) → m ≡ adding present (getD ns 0 0 - 1)
+          → (taken : List Share) → Holds (s .t) (s .d) taken present words → Comes (s .t) (s .d) (takeNumbers (s .t) taken (some ns)) (Accepted m) ws
+      unfolding Comes takeNumbers
+      take-in at m e h len stands w a taken holds =
+          let i : ℕ = getD ns 0 0 - 1 in
+          let unmet : isSome (shareOf taken i) ≡ false = sym (holds-met (s .t) (s .d) taken present words holds i inside) ∙ sym e ∙ h in
+          let few : size (s .t) ≤ 32 = omega (arith, st .members, st .few) in
+          let share : length (drop 1 ns) ≡ width (s .t) (s .d) = length-drop 1 ns ∙ omega (arith, st .share) in
+          let where-it-stands : at ≡ i * s .width = omega (arith, stands .stands) in
+          let stored : ws ≡ sets words (i * width (s .t) (s .d)) (drop 1 ns) =
+          w ∙ ap₂ (sets words) (where-it-stands ∙ ap (λ (k : ℕ). i * k) (st .share)) (part-all 1 ns) in (
+            record { member = i; words = drop 1 ns } ∷ taken,
+            accepted taken (drop 1 ns) unmet,
+            rw (a, stored) (holds-more (s .t) (s .d) taken present words holds i (drop 1 ns) few inside share),
+          )
 
-    -- one that was not: its share is stored
-    pub take-in :
-        InRange t d
-        → has present (getD ns 0 0 - 1) ≡ false
-        → length ns ≡ 1 + width t d
-        → ws ≡ sets words ((getD ns 0 0 - 1) * (d + 3 * (2 * t + 1))) (take (length ns - 1) (drop 1 ns))
-        → (m : ℕ)
-        → m ≡ adding present (getD ns 0 0 - 1)
-        → (taken : List Share)
-        → Holds t d taken present words
-        → Comes t d (takeNumbers t taken (some ns)) (Accepted m) ws
+  -- a line's numbers: of the wrong shape, and of the right one
+  module _ (present : ℕ) (words ws line : List ℕ) where
+    numbered : (taken : List Share) → takeLine (s .t) (s .d) taken line ≡ takeNumbers (s .t) taken (lineOf 80 (1 + s .width) line)
+    unfolding takeLine
+    numbered taken = ap (λ (k : ℕ). takeNumbers (s .t) taken (lineOf 80 (1 + k) line)) (sym (st .share))
+
+    pub take-none : lineOf 80 (1 + s .width) line ≡ none → (taken : List Share) → Holds (s .t) (s .d) taken present words
+        → Comes (s .t) (s .d) (takeLine (s .t) (s .d) taken line) (Refused 23) ws
     unfolding Comes takeNumbers
-    take-in r h len w m e taken s =
-        let i : ℕ = getD ns 0 0 - 1 in
-        let b : isSome (shareOf taken i) ≡ false = sym (holds-met t d taken present words s i inside) ∙ h in
-        let few : size t ≤ 32 = omega (arith, size-31 t (r .t-high)) in
-        let share : length (drop 1 ns) ≡ width t d = length-drop 1 ns ∙ omega arith in
-        let place : ws ≡ sets words (i * width t d) (drop 1 ns) =
-        w ∙ ap₂ (λ (k : ℕ) (l : List ℕ). sets words (i * k) l) (sym (width-is t d)) (part-all 1 ns) in
-        (record { member = i; words = drop 1 ns } ∷ taken, accepted taken (drop 1 ns) b, rw (e, place) (holds-more t d taken present words s i (drop 1 ns) few inside share))
+    take-none e taken holds = numbered taken ∙ rw e
 
--- a line of the wrong shape
-pub take-none : (t d present : ℕ) (words ws line : List ℕ) → lineOf 80 (1 + width t d) line ≡ none → (taken : List Share) → Holds t d taken present words → Comes t d (takeLine t d taken line) (Refused 23) ws
-unfolding Comes takeLine takeNumbers
-take-none t d present words ws line e taken s = rw e
-
--- and one of the right shape
-pub take-some :
-    (t d present : ℕ) (ns words ws line : List ℕ) (r : Line)
-    → lineOf 80 (1 + width t d) line ≡ some ns
-    → ((taken : List Share) → Holds t d taken present words → Comes t d (takeNumbers t taken (some ns)) r ws)
-    → (taken : List Share)
-    → Holds t d taken present words
-    → Comes t d (takeLine t d taken line) r ws
-unfolding takeLine
-take-some t d present ns words ws line r e f taken s = rw e (f taken s)
-
--- a line's numbers, as the code has them in a slice of the right length
-pub line-none : (letter k : ℕ) (line out ns : List ℕ) {b : Bool} → length out ≡ k → lineOf letter (length out) line ≡ cond b (some ns) none → b ≡ false → lineOf letter k line ≡ none
-line-none letter k line out ns e h q = ap (λ (j : ℕ). lineOf letter j line) (sym e) ∙ h ∙ ap (λ (c : Bool). cond c (some ns) none) q
-
-pub line-some : (letter k : ℕ) (line out ns : List ℕ) {b : Bool} → length out ≡ k → lineOf letter (length out) line ≡ cond b (some ns) none → b ≡ true → lineOf letter k line ≡ some ns
-line-some letter k line out ns e h q = ap (λ (j : ℕ). lineOf letter j line) (sym e) ∙ h ∙ ap (λ (c : Bool). cond c (some ns) none) q
-
--- a P line's numbers fit 158 words
-pub scratch-length : (t d : ℕ) (l : List ℕ) → InRange t d → length l ≡ 158 → length (take (1 + (d + 3 * (2 * t + 1))) l) ≡ 1 + (d + 3 * (2 * t + 1))
-scratch-length t d l r e =
-    let h : 1 + (d + 3 * (2 * t + 1)) ≤ length l = omega (arith, r .t-high, r .d-high, e) in
-    length-take-le (1 + (d + 3 * (2 * t + 1))) l h
+    pub take-some : (ns : List ℕ) (r : Line) → lineOf 80 (1 + s .width) line ≡ some ns
+        → ((taken : List Share) → Holds (s .t) (s .d) taken present words → Comes (s .t) (s .d) (takeNumbers (s .t) taken (some ns)) r ws)
+        → (taken : List Share) → Holds (s .t) (s .d) taken present words → Comes (s .t) (s .d) (takeLine (s .t) (s .d) taken line) r ws
+    take-some ns r e f taken holds = rw (numbered taken, e) (f taken holds)

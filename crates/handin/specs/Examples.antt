@@ -1,12 +1,14 @@
--- Document 01's sample text as the reader takes it, and corners that it leaves open. Proved in proofs/Examples.antt.
+-- Document 01's sample text as the reader takes it, and corners that it leaves open; those of numerals and of a line's shape alone are
+-- in `text`. Proved in proofs/Examples.antt.
 use Prim.Native.Nat.{ℕ}
 use Prim.Native.String.{String}
 use mathlib.Core.Path.{_≡_}
 use mathlib.Core.List.{List, [], _∷_, _++_}
 use lib.ListN.{replicate}
 use Rattle.lists.specs.Ascii.{ascii}
+use Rattle.shares.specs.Layout.{capacity}
 use Rattle.shares.specs.Sample.{sample, keyless}
-use Rattle.handin.specs.Reader.{HandIn, capacity, unread, read}
+use Rattle.handin.specs.Reader.{HandIn, unread, read}
 use Rattle.handin.specs.Sample.{lineD, line1, line2, line3, sampleText, keylessText}
 
 -- a text for t = 1 and d = 1 was read: the quorum, the present mask, the 30 words of its three shares
@@ -49,23 +51,13 @@ pub record Examples : Type 0 where
   pub unended : refuses 22 (ascii "D\t1\t1\t0")
   pub blank : refuses 22 (ascii "\n")
   pub line-before-next : refuses 22 (ascii "D\t1\t1\nx\n")
-  pub four-numerals : refuses 22 (ascii "D\t1\t1\t0\t1\n")
-  pub carriage-return : refuses 22 (ascii "D\t1\t1\t0\r\n")
   pub t-0 : refuses 22 (ascii "D\t0\t1\t0\n")
   pub t-16 : refuses 22 (ascii "D\t16\t1\t0\n")
   pub d-0 : refuses 22 (ascii "D\t1\t0\t0\n")
   pub d-65 : refuses 22 (ascii "D\t1\t65\t0\n")
-  pub quorum-65536 : refuses 22 (ascii "D\t1\t1\t65536\n")
-  pub leading-zero : refuses 22 (ascii "D\t01\t1\t0\n")
-  pub two-zeros : refuses 22 (ascii "D\t1\t1\t00\n")
-  pub empty-numeral : refuses 22 (ascii "D\t1\t1\t\n")
-  pub six-digits : refuses 22 (ascii "D\t1\t1\t100000\n")
-  pub letter : refuses 22 (ascii "d\t1\t1\t0\n")
-  pub two-letters : refuses 22 (ascii "DD\t1\t1\t0\n")
   -- lines that are no P line: 23
   pub short : refuses 23 (after "P\t1\t0\t0\t0\t0\t0\t0\t0\t0\t0\n")
   pub long : refuses 23 (after "P\t1\t0\t0\t0\t0\t0\t0\t0\t0\t0\t0\t0\n")
-  pub trailing-tab : refuses 23 (after "P\t1\t0\t0\t0\t0\t0\t0\t0\t0\t0\t0\t\n")
   pub second-D : refuses 23 (lineD ++ lineD)
   pub blank-at-end : refuses 23 (sampleText ++ 10 ∷ [])
   pub unended-at-end : refuses 23 (sampleText ++ ascii "P\t1\t0\t0\t0\t0\t0\t0\t0\t0\t0\t0")

@@ -1,6 +1,5 @@
-pub mod Answers
+pub mod Answer
 pub mod Examples
 pub mod Internal
-pub mod Lines
 pub mod Reader
 pub mod Sample

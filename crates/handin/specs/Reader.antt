@@ -9,12 +9,8 @@ use lib.ListN.{length, getD, drop, replicate}
 use Rattle.lists.specs.Tabulate.{tab, concat, first}
 use Rattle.lists.specs.Checks.{_unless_, checked, within}
 use Rattle.members.specs.Members.{isThreshold, size, setOf}
-use Rattle.shares.specs.Layout.{isLength, width}
-use Rattle.handin.specs.Lines.{parts, lineOf}
-
--- how many words the reader's buffer has: the shares at t = 15 and d = 64
-abbrev pub capacity : ℕ
-capacity = 4867
+use Rattle.shares.specs.Layout.{isLength, width, capacity}
+use Rattle.text.specs.Lines.{parts, lineOf}
 
 -- a P line that was taken: the member, counted from 0, and the words of its share
 pub record Share : Type 0 where
@@ -99,7 +95,7 @@ readLines len [] = unread len 22
 readLines len (end ∷ []) = unread len 22
 readLines len (line ∷ next ∷ more) = readNumbers len (lineOf 68 3 line) (next ∷ more)
 
--- the buffer has len words
+-- the buffer has len words, and must have room for the largest station
 unfoldable pub read : List ℕ → ℕ → HandIn
 read text len =
     let answer : HandIn = readLines len (parts 10 text) in

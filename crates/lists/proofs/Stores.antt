@@ -6,8 +6,8 @@ use Prim.Native.Nat.{ℕ, suc, _+_, _-_, _*_, _≤_, _<_, zero-le}
 use native.Mathlib.Nat.{add-zero}
 use native.Mathlib.Numerals.{add-one}
 use native.Mathlib.Omega.{arith}
-use lib.ListN.{length, take, drop, set, drop-of-length-le}
-use lib.Seq.{sets, sets-eq, length-sets, length-take-le, take-at, drop-at, take-set-le, drop-set-add}
+use lib.ListN.{length, getD, take, drop, set, drop-of-length-le, length-drop, length-set}
+use lib.Seq.{sets, sets-eq, set-comm, length-sets, length-take-le, take-all, drop-cons, take-at, drop-at, take-set-le, drop-set-add}
 use Rattle.lists.specs.Tabulate.{tab, concat}
 use Rattle.lists.proofs.Tabulate.{length-tab}
 use Rattle.lists.proofs.Blocks.{tab-more, concat-more, length-concat}
@@ -24,6 +24,15 @@ module _ {A : Type 0} where
 
   pub sets-then : (l vs ws : List A) (at n : ℕ) → length vs ≡ n → sets l at (vs ++ ws) ≡ sets (sets l at vs) (at + n) ws
   sets-then l vs ws at n e = sets-append l vs ws at ∙ ap (λ (k : ℕ). sets (sets l at vs) (at + k) ws) e
+
+  -- the last word may be stored first
+  pub sets-last : (l vs : List A) (a : A) (at : ℕ) → sets l at (vs ++ (a ∷ [])) ≡ sets (set l (at + length vs) a) at vs
+  sets-last l [] a at = ap (λ (k : ℕ). set l k a) (sym (add-zero at))
+  sets-last l (v ∷ vs) a at =
+      let n : suc at + length vs ≡ at + suc (length vs) = omega arith in
+      sets-last (set l at v) vs a (suc at)
+      ∙ ap (λ (k : ℕ). sets (set (set l at v) k a) (suc at) vs) n
+      ∙ ap (λ (m : List A). sets m (suc at) vs) (set-comm l at (at + suc (length vs)) v a (λ e. omega arith))
 
   -- what was stored stands there
   pub sets-read : (l vs : List A) (at n : ℕ) → length vs ≡ n → at + n ≤ length l → take n (drop at (sets l at vs)) ≡ vs
@@ -51,6 +60,10 @@ module _ {A : Type 0} where
   part-kept l [] at n place h = refl
   part-kept l (a ∷ vs) at n place h = part-kept (set l place a) vs at n (suc place) (omega arith) ∙ part-set l a at n place h
 
+  -- a part from a place to the end, as the code lends it
+  pub part-all : (at : ℕ) (l : List A) → take (length l - at) (drop at l) ≡ drop at l
+  part-all at l = take-all (length l - at) (drop at l) (simp length-drop (omega arith))
+
   -- a loop that has stored the first j of n words
   pub record Filled (n : ℕ) (f : ℕ → A) (l : List A) (at : ℕ) (now : List A) (j : ℕ) : Type 0 where
     pub inside : j ≤ n
@@ -75,6 +88,31 @@ module _ {A : Type 0} where
   filled-last n f l at now j h t =
       let e : j ≡ n = omega (arith, h, t .inside) in
       t .so-far ∙ ap (λ (k : ℕ). sets l at (tab k f)) e
+
+  -- a loop that copies a list: j words are stored, and with those left it comes to all
+  pub record Copied (vs l : List A) (at : ℕ) (now : List A) (j : ℕ) : Type 0 where
+    pub inside : j ≤ length vs
+    pub long : length now ≡ length l
+    pub left : sets now (at + j) (drop j vs) ≡ sets l at vs
+
+  pub copied-first : (vs l : List A) (at : ℕ) → Copied vs l at l 0
+  copied-first vs l at = record { inside = zero-le; long = refl; left = ap (λ (k : ℕ). sets l k vs) (add-zero at) }
+
+  module _ {vs l : List A} {at : ℕ} {now : List A} {j : ℕ} (t : Copied vs l at now j) where
+    pub copied-next : (d : A) → j < length vs → Copied vs l at (set now (at + j) (getD vs j d)) (j + 1)
+    copied-next d h =
+        let n : at + (j + 1) ≡ suc (at + j) = omega arith in
+        record {
+          inside = omega arith;
+          long = length-set now (at + j) (getD vs j d) ∙ t .long;
+          left =
+              ap₂ (λ (k m : ℕ). sets (set now (at + j) (getD vs j d)) k (drop m vs)) n (add-one j)
+              ∙ ap (sets now (at + j)) (sym (drop-cons vs j d h))
+              ∙ t .left;
+        }
+
+    pub copied-last : length vs ≤ j → now ≡ sets l at vs
+    copied-last h = ap (sets now (at + j)) (sym (drop-of-length-le vs h)) ∙ t .left
 
   -- a loop that has stored the first j of n lists, each of w words
   pub record Joined (n w : ℕ) (f : ℕ → List A) (l : List A) (at : ℕ) (now : List A) (j : ℕ) : Type 0 where

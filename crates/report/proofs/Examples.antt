@@ -1,6 +1,5 @@
 -- The examples and corners, by computing.
 -- Assumes nothing.
-use mathlib.Core.Path.{refl}
 use Rattle.lists.specs.Ascii.{ascii}
 use Rattle.lists.specs.Tabulate.{tab, all, count, keep, each, first, concat, choose}
 use Rattle.field.specs.Field.{difference, product, power, inverse}
@@ -12,28 +11,17 @@ use Rattle.pruning.specs.Pruning.{votes, round, rounds, survivors}
 use Rattle.decoding.specs.Decoding.{surplus, need, agreeing, through, find}
 use Rattle.reconstruction.specs.Votes.{fieldShare, usable, tagHolds, accepts, voteRows}
 use Rattle.reconstruction.specs.Reconstruction.{unopened, isQuorum, required, atZero, openedFrom, finish, reconstruct}
-use Rattle.handin.specs.Lines.{before, parts, decimal, leadsWithZero, isNumeral, numerals, isLetter, numbersOf, lineOf}
+use Rattle.text.specs.Lines.{digits, field, line, before, parts, decimal, leadsWithZero, isNumeral, numerals, isLetter, numbersOf, lineOf}
 use Rattle.handin.specs.Reader.{shareOf, isSome, wordsOr, takeShare, takeNumbers, takeLine, takeLines, unread, placed, readFrom, readNumbers, readLines, read}
 use Rattle.handin.specs.Sample.{lineD, line1, line2, line3, sampleText, keylessText}
-use Rattle.report.specs.Report.{digits, field, line, wordLine, printOpened, printRead, report}
+use Rattle.report.specs.Report.{wordLine, printOpened, printRead, report}
 use Rattle.report.specs.Examples.{Examples}
 
 pub examples : Examples
-unfolding digits field line wordLine printOpened printRead report before parts decimal leadsWithZero isNumeral numerals isLetter numbersOf lineOf shareOf isSome wordsOr takeShare takeNumbers takeLine takeLines unread placed readFrom readNumbers readLines read lineD line1 line2 line3 sampleText keylessText ascii tab all count keep each first concat choose difference product power inverse eval value linear slopes interpolate size ownPoints bit has setOf card membersOf surplus need agreeing through find tag width word shareWords tagWord keyα keyβ votes round rounds survivors fieldShare usable tagHolds accepts voteRows unopened isQuorum required atZero openedFrom finish reconstruct
-examples =
-    record {
-      c9-printed = refl;
-      c10-printed = refl;
-      two-words = refl;
-      refused-13 = refl;
-      refused-14 = refl;
-      refused-15 = refl;
-      refused-21 = refl;
-      refused-22 = refl;
-      refused-23 = refl;
-      refused-24 = refl;
-      numeral-0 = refl;
-      numeral-10 = refl;
-      numeral-mask = refl;
-      numeral-largest = refl;
-    }
+unfolding
+    digits field line wordLine printOpened printRead report before parts decimal leadsWithZero isNumeral numerals isLetter numbersOf lineOf shareOf isSome
+    wordsOr takeShare takeNumbers takeLine takeLines unread placed readFrom readNumbers readLines read lineD line1 line2 line3 sampleText keylessText
+    ascii tab all count keep each first concat choose difference product power inverse eval value linear slopes interpolate size ownPoints bit has setOf
+    card membersOf surplus need agreeing through find tag width word shareWords tagWord keyα keyβ votes round rounds survivors fieldShare usable tagHolds
+    accepts voteRows unopened isQuorum required atZero openedFrom finish reconstruct
+examples = search

@@ -1,24 +1,30 @@
 -- What the reader's answer prints.
 -- Assumes nothing.
-use mathlib.Core.Path.{_≡_, refl, sym, ap, _∙_}
+use mathlib.Core.Path.{_≡_, refl, sym, ap, ap₂, _∙_}
 use mathlib.Core.Bool.{Bool, true, false}
 use mathlib.Core.List.{List, [], _∷_}
-use Prim.Native.Nat.{ℕ, zero, suc, _*_}
+use Prim.Native.Nat.{ℕ, zero, suc, _*_, _≤_}
 use native.Mathlib.Nat.{suc-ne-zero}
 use native.Mathlib.Omega.{arith}
 use borrow.Author.Tests.{ne-eqb}
-use lib.ListN.{take}
+use Rattle.lists.specs.Ascii.{ascii}
+use lib.ListN.{length, take}
+use lib.Seq.{length-take-le}
 use Rattle.members.specs.Members.{size}
-use Rattle.shares.specs.Layout.{width}
+use Rattle.shares.specs.Layout.{width, capacity}
 use Rattle.reconstruction.specs.Reconstruction.{reconstruct}
-use Rattle.handin.specs.Reader.{HandIn, capacity, read}
-use Rattle.handin.specs.Internal.Progress.{InRange}
-use Rattle.handin.specs.Answers.{answerOf}
+use Rattle.handin.specs.Reader.{HandIn, read}
+use Rattle.shares.specs.Internal.Shape.{InRange, shapeOf}
+use Rattle.shares.specs.declared.Shape.{Shape}
+use Rattle.text.specs.Internal.Writing.{Written}
+use Rattle.text.proofs.Writing.{written-as}
+use Rattle.handin.specs.Answer.{answerOf}
 use Rattle.handin.specs.declared.Outcome.{Outcome}
 use Rattle.handin.specs.declared.Outcome.the-variants.{Accepted, Refused}
 use Rattle.handin.proofs.Sound.{sound}
-use Rattle.report.specs.Report.{line, printOpened, printRead, report}
-use Rattle.report.specs.Internal.Writing.{opening}
+use Rattle.text.specs.Lines.{line}
+use Rattle.report.specs.Report.{printOpened, printRead, report}
+use Rattle.report.specs.Internal.Printing.{opening}
 
 module _ (text words : List ℕ) {len : ℕ} {r : Outcome} (full : len ≡ capacity) (answers : answerOf r words ≡ read text len) where
   answered : (o : Outcome) → r ≡ o → answerOf o words ≡ read text capacity
@@ -33,9 +39,24 @@ module _ (text words : List ℕ) {len : ℕ} {r : Outcome} (full : len ≡ capac
     unfolding opening report printRead answerOf
     prints-accepted = ap printRead (answered (Accepted t d quorum present) e)
 
-  pub prints-unread : (number : ℕ) → r ≡ Refused number → line "REFUSED" (number ∷ 0 ∷ []) ≡ report text
+  pub prints-unread : (number : ℕ) → r ≡ Refused number → line (ascii "REFUSED") (number ∷ 0 ∷ []) ≡ report text
   unfolding report printRead answerOf
   prints-unread zero e = absurd (omega (arith, sound capacity text .fits, ap (λ (a : HandIn). a .number) (answered (Refused 0) e)))
   prints-unread (suc k) e =
-      sym (ap (λ (b : Bool). elim b [ true ↦ printOpened 0 (reconstruct 0 0 0 0 (take (size 0 * width 0 0) words)) | false ↦ line "REFUSED" (suc k ∷ 0 ∷ []) ]) (ne-eqb (suc k) 0 (suc-ne-zero k)))
+      sym
+      (ap
+      (λ (b : Bool). elim b [
+        | true ↦ printOpened 0 (reconstruct 0 0 0 0 (take (size 0 * width 0 0) words))
+        | false ↦ line (ascii "REFUSED") (suc k ∷ 0 ∷ [])
+      ])
+      (ne-eqb (suc k) 0 (suc-ne-zero k)))
       ∙ ap printRead (answered (Refused (suc k)) e)
+
+-- the front of a buffer, as long as the shares of a shape are, with as many words of a secret as it says
+pub opens-front : (s : Shape) (t d present quorum : ℕ) (words secret : List ℕ) {l m : List ℕ} {end : ℕ} → s ≡ shapeOf t d → d ≤ length secret
+    → Written l 0 (opening t (length (take d secret)) present quorum (take (s .n * s .width) words)) m end
+    → Written l 0 (opening t d present quorum (take (size t * width t d) words)) m end
+opens-front s t d present quorum words secret e h w =
+    written-as
+    (ap₂ (λ (n : ℕ) (x : Shape). opening t n present quorum (take (x .n * x .width) words)) (length-take-le d secret h) e)
+    w

@@ -1,12 +1,12 @@
 -- What the program prints for document 01's examples, and for each refusal that a text can lead to. Proved in proofs/Examples.antt.
-use Prim.Native.Nat.{ℕ, _-_, _^_}
+use Prim.Native.Nat.{ℕ}
 use Prim.Native.String.{String}
 use mathlib.Core.Path.{_≡_}
 use mathlib.Core.List.{List, _++_}
 use lib.ListN.{replicate}
 use Rattle.lists.specs.Ascii.{ascii}
 use Rattle.handin.specs.Sample.{lineD, line1, line2, sampleText, keylessText}
-use Rattle.report.specs.Report.{digits, report}
+use Rattle.report.specs.Report.{report}
 
 abbrev pub prints : List ℕ → String → Type 0
 prints text output = report text ≡ ascii output
@@ -33,8 +33,3 @@ pub record Examples : Type 0 where
   pub refused-22 : prints (ascii "") "REFUSED\t22\t0\n"
   pub refused-23 : prints (lineD ++ ascii "\n") "REFUSED\t23\t0\n"
   pub refused-24 : prints (lineD ++ line1 ++ line2 ++ line1) "REFUSED\t24\t0\n"
-  -- numerals: 0, the largest mask of members, the largest of 32 bits
-  pub numeral-0 : digits 10 0 ≡ ascii "0"
-  pub numeral-10 : digits 10 10 ≡ ascii "10"
-  pub numeral-mask : digits 10 (2 ^ 31 - 1) ≡ ascii "2147483647"
-  pub numeral-largest : digits 10 (2 ^ 32 - 1) ≡ ascii "4294967295"

@@ -1,85 +1,23 @@
-// What the program `opening` prints for a text: digits, lines, the two answers, and the whole.
+// What the program `opening` prints for a text: the two answers, and the whole.
 ghost use mathlib.Core.Path.{_≡_};
 ghost use mathlib.Core.List.{[], _∷_, _++_};
-ghost use Prim.Native.Nat.{_+_, _*_, _≤_, _<_};
+ghost use Prim.Native.Nat.{_+_, _*_, _≤_};
 ghost use lib.ListN.{length, take};
+ghost use Rattle.lists.specs.Ascii.{ascii};
 ghost use Rattle.members.specs.Members.{size};
-ghost use Rattle.shares.specs.Layout.{width};
-ghost use Rattle.handin.specs.Reader.{capacity};
-ghost use Rattle.handin.specs.Internal.Progress.{InRange};
-ghost use Rattle.report.specs.Report.{digits, field, line, report, Reported};
-ghost use Rattle.report.specs.Internal.Writing.{Written, lineOfTwo, wordLines, opening};
-
-// How many digits a number has.
-fn count_digits(n: u32) -> usize
-    ensures { λ r. ⌜ r ≡ length (digits 10 n) ⌝ }
-{
-    let mut count = 1;
-    let mut rest = n;
-    while 9 < rest {
-        rest = rest / 10;
-        count += 1;
-    }
-    count
-}
-
-// The digits of a number, from the last down to the first.
-fn put_digits(n: u32, output: &mut [u8], at: usize) -> usize
-    requires { ⌜ at + length (digits 10 n) ≤ length (now output) ⌝ }
-    ensures { λ r. ⌜ Written (now (output .entry)) at (digits 10 n) (now (output .exit)) r ⌝ }
-{
-    let end = at + count_digits(n);
-    let mut i = end;
-    let mut rest = n;
-    while 9 < rest {
-        i -= 1;
-        output[i] = 48 + (rest % 10) as u8;
-        rest = rest / 10;
-    }
-    output[at] = 48 + rest as u8;
-    end
-}
-
-// A tab and a number.
-fn put_field(n: u32, output: &mut [u8], at: usize) -> usize
-    requires { ⌜ at + length (field n) ≤ length (now output) ⌝ }
-    ensures { λ r. ⌜ Written (now (output .entry)) at (field n) (now (output .exit)) r ⌝ }
-{
-    output[at] = 9;
-    put_digits(n, output, at + 1)
-}
-
-// Bytes, copied.
-fn put_bytes(bytes: &[u8], output: &mut [u8], at: usize) -> usize
-    requires { ⌜ at + length (now bytes) ≤ length (now output) ⌝ }
-    ensures { λ r. ⌜ Written (now (output .entry)) at (now (bytes .entry)) (now (output .exit)) r ⌝ }
-{
-    let mut i = 0;
-    while i < bytes.len() {
-        output[at + i] = bytes[i];
-        i += 1;
-    }
-    at + i
-}
-
-// A line: a word and two numbers.
-fn put_line(word: &[u8], a: u32, b: u32, output: &mut [u8], at: usize) -> usize
-    requires { ⌜ at + length (now word) + length (field a) + length (field b) + 1 ≤ length (now output) ⌝ }
-    ensures { λ r. ⌜ Written (now (output .entry)) at (lineOfTwo (now (word .entry)) a b) (now (output .exit)) r ⌝ }
-{
-    let first = put_bytes(word, output, at);
-    let second = put_field(a, output, first);
-    let end = put_field(b, output, second);
-    output[end] = 10;
-    end + 1
-}
+ghost use Rattle.shares.specs.Layout.{width, capacity};
+ghost use Rattle.shares.specs.Internal.Shape.{InRange};
+ghost use Rattle.text.specs.Lines.{line};
+ghost use Rattle.text.specs.Internal.Writing.{Written};
+ghost use Rattle.report.specs.Report.{report, Reported};
+ghost use Rattle.report.specs.Internal.Printing.{wordLines, opening};
 
 // The line of a word, at its place counted from 1.
 fn put_word_line(place: usize, word: u16, output: &mut [u8], at: usize) -> usize
     requires { ⌜ (place ≤ 64) × (at + 14 ≤ length (now output)) ⌝ }
-    ensures { λ r. ⌜ Written (now (output .entry)) at (line "WORD" (place ∷ word ∷ [])) (now (output .exit)) r ⌝ }
+    ensures { λ r. ⌜ Written (now (output .entry)) at (line (ascii "WORD") (place ∷ word ∷ [])) (now (output .exit)) r ⌝ }
 {
-    put_line(b"WORD", place as u32, word as u32, output, at)
+    text::put_line(b"WORD", place as u32, word as u32, output, at)
 }
 
 // A line for each word of the secret.
@@ -99,15 +37,15 @@ fn put_words(secret: &[u16], output: &mut [u8], at: usize) -> usize
 // The first line of a secret that was opened.
 fn put_open_line(survivors: u32, agreeing: u32, output: &mut [u8]) -> usize
     requires { ⌜ 27 ≤ length (now output) ⌝ }
-    ensures { λ r. ⌜ Written (now (output .entry)) 0 (line "OPEN" (survivors ∷ agreeing ∷ [])) (now (output .exit)) r ⌝ }
+    ensures { λ r. ⌜ Written (now (output .entry)) 0 (line (ascii "OPEN") (survivors ∷ agreeing ∷ [])) (now (output .exit)) r ⌝ }
 {
-    put_line(b"OPEN", survivors, agreeing, output, 0)
+    text::put_line(b"OPEN", survivors, agreeing, output, 0)
 }
 
 // A secret that was opened.
 fn put_open(survivors: u32, agreeing: u32, secret: &[u16], output: &mut [u8]) -> usize
     requires { ⌜ (length (now secret) ≤ 64) × (1024 ≤ length (now output)) ⌝ }
-    ensures { λ r. ⌜ Written (now (output .entry)) 0 (line "OPEN" (survivors ∷ agreeing ∷ []) ++ wordLines (now (secret .entry))) (now (output .exit)) r ⌝ }
+    ensures { λ r. ⌜ Written (now (output .entry)) 0 (line (ascii "OPEN") (survivors ∷ agreeing ∷ []) ++ wordLines (now (secret .entry))) (now (output .exit)) r ⌝ }
 {
     let end = put_open_line(survivors, agreeing, output);
     put_words(secret, output, end)
@@ -116,9 +54,9 @@ fn put_open(survivors: u32, agreeing: u32, secret: &[u16], output: &mut [u8]) ->
 // A refusal, of the reader or of opening.
 fn put_refused(number: u16, survivors: u32, output: &mut [u8]) -> usize
     requires { ⌜ 1024 ≤ length (now output) ⌝ }
-    ensures { λ r. ⌜ Written (now (output .entry)) 0 (line "REFUSED" (number ∷ survivors ∷ [])) (now (output .exit)) r ⌝ }
+    ensures { λ r. ⌜ Written (now (output .entry)) 0 (line (ascii "REFUSED") (number ∷ survivors ∷ [])) (now (output .exit)) r ⌝ }
 {
-    put_line(b"REFUSED", number as u32, survivors, output, 0)
+    text::put_line(b"REFUSED", number as u32, survivors, output, 0)
 }
 
 // Opens shares into a secret buffer, and prints the answer.
@@ -144,7 +82,7 @@ fn open_shares(
     }
 }
 
-// Opens the shares of a text that was read: the first n · (d + 3n) words of the reader's buffer.
+// Opens the shares of a text that was read: as many words at the front of the reader's buffer as n shares have.
 fn open_words(
     t: usize,
     d: usize,
@@ -158,8 +96,8 @@ fn open_words(
     requires { ⌜ (length (now words) ≡ capacity) × ((length (now secret) ≡ 64) × (1024 ≤ length (now output))) ⌝ }
     ensures { λ r. ⌜ Written (now (output .entry)) 0 (opening t d present quorum (take (size t * width t d) (now (words .entry)))) (now (output .exit)) r ⌝ }
 {
-    let n = 2 * t + 1;
-    let count = n * (d + 3 * n);
+    let s = shares::shape_of(t, d);
+    let count = s.n * s.width;
     open_shares(
         t,
         present,

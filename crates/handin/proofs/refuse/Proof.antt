@@ -1,18 +1,9 @@
--- `handin::refuse` meets its contract: the buffer is filled with 0.
+-- The buffer is filled with 0, as after every refusal.
 -- Assumes nothing.
-use Rattle.handin.proofs.Reading.{refused-so}
+use Rattle.handin.proofs.Reading.{unread-so}
 use borrow.Author.Needs.{needs}
 use Rattle.handin.proofs.refuse.Statement.{statement}
 use Rattle.handin.proofs.refuse.Tie as tie
 
-fill-requires : tie.Need-fill-requires
-fill-requires c κs = search needs
-
-same-length : tie.Need-same-length
-same-length c = search needs
-
-returns : tie.Need-returns
-returns c = refused-so _ _ _ (c .before .before .fill .ensures)
-
 pub refuse-spec : {M : Type 1} → statement M
-refuse-spec = tie.close (tie.spec fill-requires same-length returns)
+refuse-spec = tie.close (tie.spec (λ c κs. search needs) (λ c. search needs) (λ c. search unread-so))

@@ -1,42 +1,25 @@
--- `handin::take_line` meets its contract: the line's shape, then the member, then the store.
+-- A line of the wrong shape is refused with 23, and one of the right shape is as good as its numbers.
 -- Assumes nothing.
 use mathlib.Core.Path.{refl}
 use mathlib.Core.Logic.{inr}
-use borrow.Author.Tests.{not-true, not-false}
-use Rattle.handin.proofs.Taking.{take-none, take-some, line-none, line-some}
+use Rattle.text.proofs.FieldLaws.{line-none, line-some}
+use Rattle.handin.proofs.Taking.{take-none, take-some}
 use borrow.Author.Needs.{needs}
 use Rattle.handin.proofs.take_line.Statement.{statement}
 use Rattle.handin.proofs.take_line.Tie as tie
-
-numbers-requires : tie.Need-numbers-requires
-numbers-requires c κs = record { one = inr (inr (inr refl)) }
-
-same-length : tie.Need-same-length
-same-length c = search needs
-
-returns : tie.Need-returns
-returns c = take-none _ _ _ _ _ _ (line-none _ _ _ (c .before .before .before .before .before .before .before .before .args .scratch .now) (c .before .before .before .numbers .last .1 .1 .0) (c .before .before .before .before .before .before .before .before .pre .1 .0) (c .before .before .before .numbers .ensures) (not-true (c .before .before .before .numbers .result) (c .if1 .taken)))
-
-take-share-requires : tie.Need-take-share-requires
-take-share-requires c κs = search needs
-
-same-length-2 : tie.Need-same-length-2
-same-length-2 c = search needs
-
-same-length-3 : tie.Need-same-length-3
-same-length-3 c = search needs
-
-returns-2 : tie.Need-returns-2
-returns-2 c = take-some _ _ _ _ _ _ _ _ (line-some _ _ _ (c .before .before .before .before .before .before .before .before .before .before .before .before .before .args .scratch .now) _ (c .before .before .before .before .before .before .before .before .before .before .before .before .before .pre .1 .0) (c .before .before .before .before .before .before .before .before .numbers .ensures) (not-false (c .before .before .before .before .before .before .before .before .numbers .result) (c .before .before .before .before .before .if1 .left))) (c .before .before .take-share .ensures)
 
 pub take-line-spec : {M : Type 1} → statement M
 take-line-spec =
     tie.close
     (tie.spec
-    numbers-requires
-    same-length
-    returns
-    take-share-requires
-    same-length-2
-    same-length-3
-    returns-2)
+    (λ c κs. record { one = inr (inr (inr refl)) })
+    (λ c. search needs)
+    (λ c. search (take-none, line-none))
+    (λ c κs. search needs)
+    (λ c. search needs)
+    (λ c. search needs)
+    (λ c.
+    let (entry, read, good, done) : tie.Start × tie.After-numbers × tie.Else1 × tie.After-take-share = (search, search, search, search) in
+    take-some _ (entry .pre .0) _ _ _ _ _ _
+    (line-some _ _ _ (entry .args .scratch .now) _ (read .numbers .result) (entry .pre .1 .0) (read .numbers .ensures) (good .if1 .left))
+    (done .take-share .ensures)))

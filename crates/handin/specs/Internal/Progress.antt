@@ -1,6 +1,6 @@
 -- How far the reader has come: the shares taken so far, as the present mask and the buffer have them.
 -- Assumes nothing.
-use Prim.Native.Nat.{ℕ, _≤_}
+use Prim.Native.Nat.{ℕ}
 use mathlib.Core.Path.{_≡_}
 use mathlib.Core.List.{List}
 use lib.ListN.{length, replicate}
@@ -12,13 +12,6 @@ use Rattle.handin.specs.declared.Outcome.{Outcome}
 use Rattle.handin.specs.declared.Outcome.the-variants as outcome
 use Rattle.handin.specs.declared.Line.{Line}
 use Rattle.handin.specs.declared.Line.the-variants.{Accepted, Refused}
-
--- t is 1 to 15, d is 1 to 64
-pub record InRange (t d : ℕ) : Type 0 where
-  pub t-low : 1 ≤ t
-  pub t-high : t ≤ 15
-  pub d-low : 1 ≤ d
-  pub d-high : d ≤ 64
 
 -- the mask and the buffer are those of the shares taken
 pub record Holds (t d : ℕ) (taken : List Share) (present : ℕ) (words : List ℕ) : Type 0 where

@@ -1,61 +1,48 @@
--- `opening::judge` meets its contract. The tests are on the number that the machine reads back from the answer's bits.
+-- The number that the machine reads back from the answer's bits is the answer, so the two tests tell its three cases apart.
 -- Assumes nothing.
 use mathlib.Core.Path.{_≡_, refl, sym, ap, _∙_}
 use mathlib.Core.Bool.{true, false, true≢false}
 use Prim.Native.Nat.{ℕ, zero, suc}
 use native.Mathlib.Omega.{arith}
 use lib.IntN.{ℤ, pos, negsuc}
-use lib.ListN.{length}
 use lib.Signed.{ltZ}
 use mir.Syntax.{w64}
 use mir.Val.{toZ, ofZ}
 use mir.Facts.{toZ-ofZ}
 use borrow.Author.Tests.{ltb-true}
 use Rattle.io.specs.Counts.{clamped}
-use Rattle.opening.specs.declared.Step.{Step}
 use Rattle.opening.specs.declared.Step.the-variants.{Failed, End, More}
 use Rattle.opening.specs.Input.{stepOf}
 use borrow.Author.Needs.{needs}
 use Rattle.opening.proofs.judge.Statement.{statement}
 use Rattle.opening.proofs.judge.Tie as tie
 
-below : (z : ℤ) (room : ℕ) → ltZ z (pos 0) ≡ true → Failed ≡ stepOf z room
+below : (z got : ℤ) (room : ℕ) → z ≡ got → ltZ z (pos 0) ≡ true → Failed ≡ stepOf got room
 unfolding stepOf
-below (pos n) room e = absurd (omega (arith, ltb-true n 0 e))
-below (negsuc k) room e = refl
+below z (pos n) room e h = absurd (omega (arith, ltb-true n 0 (rw e at h)))
+below z (negsuc k) room e h = refl
 
-at-zero : (z : ℤ) (room : ℕ) → z ≡ pos 0 → End ≡ stepOf z room
+at-zero : (z got : ℤ) (room : ℕ) → z ≡ got → z ≡ pos 0 → End ≡ stepOf got room
 unfolding stepOf
-at-zero z room e = sym (ap (λ (z : ℤ). stepOf z room) e)
+at-zero z got room e h = sym (ap (λ (x : ℤ). stepOf x room) (sym e ∙ h))
 
-above : (z : ℤ) (room count : ℕ) → ltZ z (pos 0) ≡ false → (z ≡ pos 0 → ⊥) → count ≡ clamped z room → More count ≡ stepOf z room
+above : (z got : ℤ) (room count : ℕ) → z ≡ got → ltZ z (pos 0) ≡ false → (z ≡ pos 0 → ⊥) → count ≡ clamped z room → More count ≡ stepOf got room
 unfolding stepOf
-above (pos zero) room count h other e = absurd (other refl)
-above (pos (suc k)) room count h other e = ap More e
-above (negsuc k) room count h other e = absurd (true≢false h)
+above z (pos zero) room count e h other q = absurd (other e)
+above z (pos (suc k)) room count e h other q = ap More (rw e at q)
+above z (negsuc k) room count e h other q = absurd (true≢false (rw e at h))
 
-returns : tie.Need-returns
-returns c =
-    let start = c .before .before in
-    let room = length (start .args .buffer .now) in
-    below (toZ w64 (ofZ w64 (start .args .got))) room (c .if1 .taken) ∙ ap (λ (z : ℤ). stepOf z room) (toZ-ofZ (start .fits .got))
-
-returns-2 : tie.Need-returns-2
-returns-2 c =
-    let start = c .before .before .before in
-    at-zero (start .args .got) (length (start .args .buffer .now)) (sym (toZ-ofZ (start .fits .got)) ∙ ap (toZ w64) (c .if2 .taken))
-
-count-requires : tie.Need-count-requires
-count-requires c κs = search needs
-
-returns-3 : tie.Need-returns-3
-returns-3 c =
-    let start = c .before .before .before .before in
-    let room = length (start .args .buffer .now) in
-    let back = toZ-ofZ (start .fits .got) in
-    above (toZ w64 (ofZ w64 (start .args .got))) room (c .count .result) (c .before .before .if1 .left)
-    (λ e. c .before .if2 .left (ap (ofZ w64) (sym back ∙ e))) (c .count .ensures .1)
-    ∙ ap (λ (z : ℤ). stepOf z room) back
+-- the answer as the machine reads it back
+back : (c : tie.Start) → toZ w64 (ofZ w64 (c .args .got)) ≡ c .args .got
+back c = toZ-ofZ (c .fits .got)
 
 pub judge-spec : {M : Type 1} → statement M
-judge-spec = tie.close (tie.spec returns returns-2 count-requires returns-3)
+judge-spec =
+    tie.close
+    (tie.spec
+    (λ c. search (below, back))
+    (λ c. let entry : tie.Start = search in at-zero _ _ _ (back entry) (ap (toZ w64) (c .if2 .taken)))
+    (λ c κs. search needs)
+    (λ c.
+    let (entry, some, other) : tie.Start × tie.Else1 × tie.Else2 = (search, search, search) in
+    above _ _ _ _ (back entry) (some .if1 .left) (λ e. other .if2 .left (ap (ofZ w64) (sym (back entry) ∙ e))) (c .count .ensures .1)))

@@ -1,12 +1,12 @@
--- `opening::read_input` meets its contract. The loop's invariant: the bytes read are in the buffer.
+-- The bytes read are in the buffer: each read has at most the room that was left, and where it has none the input has ended.
 -- Assumes nothing.
-use Rattle.opening.proofs.Steps.{more-fit}
 use mathlib.Core.Path.{_≡_, refl, sym, _∙_}
-use Prim.Native.Nat.{_≤_, _-_}
+use Prim.Native.Nat.{_+_, _≤_, _<_, _-_}
 use native.Mathlib.Omega.{arith}
 use borrow.Author.Needs.{needs}
 use borrow.Rule.Slice.PartMut.{same-len-mid}
 use lib.ListN.{length, length-take, length-drop}
+use Rattle.opening.proofs.Steps.{more-fit}
 use Rattle.opening.proofs.read_input.Statement.{statement}
 use Rattle.opening.proofs.read_input.Tie as tie
 
@@ -16,68 +16,17 @@ Inv-loop text₀ n₀ text n = (n ≤ length text) × (length text ≡ length te
 abbrev μ-loop : tie.MeasureT-loop
 μ-loop text₀ n₀ text n = length text₀ - n
 
-loop-holds : tie.Need-loop-holds Inv-loop μ-loop
-loop-holds c = (omega arith, refl)
-
-sub-read : tie.Need-sub-read Inv-loop μ-loop
-sub-read c = omega arith
-
-part-read-start : tie.Need-part-read-start Inv-loop μ-loop
-part-read-start c = omega arith
-
-part-read-end : tie.Need-part-read-end Inv-loop μ-loop
-part-read-end c = omega arith
-
-read-requires : tie.Need-read-requires Inv-loop μ-loop
-read-requires c κs = tt
-
-sub-judge : tie.Need-sub-judge Inv-loop μ-loop
-sub-judge c = omega arith
-
-part-judge-start : tie.Need-part-judge-start Inv-loop μ-loop
-part-judge-start c = omega arith
-
-part-judge-end : tie.Need-part-judge-end Inv-loop μ-loop
-part-judge-end c = omega arith
-
-judge-requires : tie.Need-judge-requires Inv-loop μ-loop
-judge-requires c κs = tt
-
-enum-told : tie.Need-enum-told Inv-loop μ-loop
-enum-told c = search needs
-
-same-length : tie.Need-same-length Inv-loop μ-loop
-same-length c = same-len-mid (c .before .before .before .before .before .before .before .before .before .before .loop .n) (length (c .before .before .before .before .before .before .before .before .before .before .loop .text) - c .before .before .before .before .before .before .before .before .before .before .loop .n) (c .before .before .before .before .before .before .before .before .before .before .loop .text) (c .before .before .before .before .before .before .before .read .last .1 .0) (c .before .before .before .before .before .before .before .read .kept .1 .0) ∙ c .before .before .before .before .before .before .before .before .before .before .loop .inv .1
-
-returns : tie.Need-returns Inv-loop μ-loop
-returns c = tt
-
-enum-told-2 : tie.Need-enum-told-2 Inv-loop μ-loop
-enum-told-2 c = search needs
-
-same-length-2 : tie.Need-same-length-2 Inv-loop μ-loop
-same-length-2 c = same-len-mid (c .before .before .before .before .before .before .before .before .before .before .loop .n) (length (c .before .before .before .before .before .before .before .before .before .before .loop .text) - c .before .before .before .before .before .before .before .before .before .before .loop .n) (c .before .before .before .before .before .before .before .before .before .before .loop .text) (c .before .before .before .before .before .before .before .read .last .1 .0) (c .before .before .before .before .before .before .before .read .kept .1 .0) ∙ c .before .before .before .before .before .before .before .before .before .before .loop .inv .1
-
-returns-2 : tie.Need-returns-2 Inv-loop μ-loop
-returns-2 c = omega (arith, c .before .before .before .before .before .before .before .before .before .before .loop .inv .0, c .before .before .before .before .before .before .before .before .before .before .loop .inv .1)
-
-enum-known-count : tie.Need-enum-known-count Inv-loop μ-loop
-enum-known-count c = search needs
-
-add-n : tie.Need-add-n Inv-loop μ-loop
-add-n c = omega (arith, simp (length-take, length-drop) at (more-fit _ _ _ (sym (c .before .count .given .1) ∙ c .before .before .before .judge .ensures) .0), simp (length-take, length-drop) at (more-fit _ _ _ (sym (c .before .count .given .1) ∙ c .before .before .before .judge .ensures) .1), same-len-mid (c .before .before .before .before .before .before .before .before .before .before .before .loop .n) (length (c .before .before .before .before .before .before .before .before .before .before .before .loop .text) - c .before .before .before .before .before .before .before .before .before .before .before .loop .n) (c .before .before .before .before .before .before .before .before .before .before .before .loop .text) (c .before .before .before .before .before .before .before .before .read .last .1 .0) (c .before .before .before .before .before .before .before .before .read .kept .1 .0), c .before .before .before .before .before .before .before .before .before .before .loop-test .taken, c .before .before .before .before .before .before .before .before .before .before .before .loop .inv .0, c .before .before .before .before .before .before .before .before .before .before .before .loop .inv .1)
-
-loop-less : tie.Need-loop-less Inv-loop μ-loop
-loop-less c = omega (arith, simp (length-take, length-drop) at (more-fit _ _ _ (sym (c .before .count .given .1) ∙ c .before .before .before .judge .ensures) .0), simp (length-take, length-drop) at (more-fit _ _ _ (sym (c .before .count .given .1) ∙ c .before .before .before .judge .ensures) .1), same-len-mid (c .before .before .before .before .before .before .before .before .before .before .before .loop .n) (length (c .before .before .before .before .before .before .before .before .before .before .before .loop .text) - c .before .before .before .before .before .before .before .before .before .before .before .loop .n) (c .before .before .before .before .before .before .before .before .before .before .before .loop .text) (c .before .before .before .before .before .before .before .before .read .last .1 .0) (c .before .before .before .before .before .before .before .before .read .kept .1 .0), c .before .before .before .before .before .before .before .before .before .before .loop-test .taken, c .before .before .before .before .before .before .before .before .before .before .before .loop .inv .0, c .before .before .before .before .before .before .before .before .before .before .before .loop .inv .1)
-
-loop-again : tie.Need-loop-again Inv-loop μ-loop
-loop-again c = (omega (arith, simp (length-take, length-drop) at (more-fit _ _ _ (sym (c .before .count .given .1) ∙ c .before .before .before .judge .ensures) .0), simp (length-take, length-drop) at (more-fit _ _ _ (sym (c .before .count .given .1) ∙ c .before .before .before .judge .ensures) .1), same-len-mid (c .before .before .before .before .before .before .before .before .before .before .before .loop .n) (length (c .before .before .before .before .before .before .before .before .before .before .before .loop .text) - c .before .before .before .before .before .before .before .before .before .before .before .loop .n) (c .before .before .before .before .before .before .before .before .before .before .before .loop .text) (c .before .before .before .before .before .before .before .before .read .last .1 .0) (c .before .before .before .before .before .before .before .before .read .kept .1 .0), c .before .before .before .before .before .before .before .before .before .before .loop-test .taken, c .before .before .before .before .before .before .before .before .before .before .before .loop .inv .0, c .before .before .before .before .before .before .before .before .before .before .before .loop .inv .1), same-len-mid (c .before .before .before .before .before .before .before .before .before .before .before .loop .n) (length (c .before .before .before .before .before .before .before .before .before .before .before .loop .text) - c .before .before .before .before .before .before .before .before .before .before .before .loop .n) (c .before .before .before .before .before .before .before .before .before .before .before .loop .text) (c .before .before .before .before .before .before .before .before .read .last .1 .0) (c .before .before .before .before .before .before .before .before .read .kept .1 .0) ∙ c .before .before .before .before .before .before .before .before .before .before .before .loop .inv .1)
-
-same-length-3 : tie.Need-same-length-3 Inv-loop μ-loop
-same-length-3 c = c .before .loop .inv .1
-
-returns-3 : tie.Need-returns-3 Inv-loop μ-loop
-returns-3 c = omega (arith, c .before .loop .inv .0, c .before .loop .inv .1)
+-- a read adds at least one byte, and all have room
+read-more : (c : tie.After-count Inv-loop μ-loop) → let at-loop : tie.At-loop Inv-loop μ-loop = search in
+    (at-loop .loop .n < at-loop .loop .n + c .count .given .0 .0) × (at-loop .loop .n + c .count .given .0 .0 ≤ length (at-loop .loop .text))
+read-more c =
+    let (at-loop, in-loop, at-judge) : tie.At-loop Inv-loop μ-loop × tie.In-loop Inv-loop μ-loop × tie.After-judge Inv-loop μ-loop = (search, search, search) in
+    let at-read : tie.After-read Inv-loop μ-loop = search in
+    let fit = more-fit _ _ _ (sym (c .count .given .1) ∙ at-judge .judge .ensures) in
+    let same = same-len-mid (at-loop .loop .n) (length (at-loop .loop .text) - at-loop .loop .n) (at-loop .loop .text) (at-read .read .last .1 .0) (at-read .read .kept .1 .0) in
+    let low = simp (length-take, length-drop) at (fit .0) in
+    let high = simp (length-take, length-drop) at (fit .1) in
+    (omega (arith, low, high, same, in-loop .loop-test .taken), omega (arith, low, high, same, in-loop .loop-test .taken))
 
 pub read-input-spec : {M : Type 1} → statement M
 read-input-spec =
@@ -85,24 +34,27 @@ read-input-spec =
     (tie.spec
     Inv-loop
     μ-loop
-    loop-holds
-    sub-read
-    part-read-start
-    part-read-end
-    read-requires
-    sub-judge
-    part-judge-start
-    part-judge-end
-    judge-requires
-    enum-told
-    same-length
-    returns
-    enum-told-2
-    same-length-2
-    returns-2
-    enum-known-count
-    add-n
-    loop-less
-    loop-again
-    same-length-3
-    returns-3)
+    (λ c. (omega arith, refl))
+    -- let got = libc::read(STDIN_FILENO, &mut text[n..]);
+    (λ c. omega arith)
+    (λ c. omega arith)
+    (λ c. omega arith)
+    (λ c κs. tt)
+    -- match judge(got, &text[n..])
+    (λ c. omega arith)
+    (λ c. omega arith)
+    (λ c. omega arith)
+    (λ c κs. tt)
+    (λ c. search needs)
+    (λ c. search needs)
+    (λ c. tt)
+    (λ c. search needs)
+    (λ c. search needs)
+    (λ c. search needs)
+    (λ c. search needs)
+    -- Step::More(count) => n += count
+    (λ c. let n : tie.After-count Inv-loop μ-loop = search in omega (arith, read-more n .1))
+    (λ c. let n : tie.After-count Inv-loop μ-loop = search in omega (arith, read-more n .0, read-more n .1))
+    (λ c. let n : tie.After-count Inv-loop μ-loop = search in (omega (arith, read-more n .1), search needs))
+    (λ c. search needs)
+    (λ c. search needs))

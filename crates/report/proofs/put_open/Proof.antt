@@ -1,23 +1,21 @@
--- `report::put_open` meets its contract: the first line has at most 27 bytes, and the lines of the words 14 each.
+-- The first line has at most 27 bytes and the lines of the words 14 each: with 64 words at most 923 of 1024.
 -- Assumes nothing.
 use native.Mathlib.Omega.{arith}
-use Rattle.report.proofs.Writing.{written-then, written-length}
+use Rattle.text.proofs.Writing.{written-then, written-length}
 use Rattle.report.proofs.Lines.{open-short}
 use borrow.Author.Needs.{needs}
 use Rattle.report.proofs.put_open.Statement.{statement}
 use Rattle.report.proofs.put_open.Tie as tie
 
-put-open-line-requires : tie.Need-put-open-line-requires
-put-open-line-requires c κs = search needs
-
-put-words-requires : tie.Need-put-words-requires
-put-words-requires c κs = (c .before .before .before .before .before .before .before .pre .0, omega (arith, c .before .before .before .before .before .before .before .pre .0, c .before .before .before .before .before .before .before .pre .1, open-short (c .before .before .before .before .before .before .before .args .survivors) (c .before .before .before .before .before .before .before .args .agreeing) (omega arith) (omega arith), c .before .before .before .put-open-line .ensures .next, written-length (c .before .before .before .put-open-line .ensures)))
-
-same-length : tie.Need-same-length
-same-length c = search needs
-
-returns : tie.Need-returns
-returns c = written-then (c .before .before .before .before .before .before .put-open-line .ensures) (c .before .before .put-words .ensures)
-
 pub put-open-spec : {M : Type 1} → statement M
-put-open-spec = tie.close (tie.spec put-open-line-requires put-words-requires same-length returns)
+put-open-spec =
+    tie.close
+    (tie.spec
+    (λ c κs. search needs)
+    -- put_words(secret, output, end)
+    (λ c κs.
+    let (entry, first) : tie.Start × tie.After-put-open-line = (search, search) in
+    let short = open-short (entry .args .survivors) (entry .args .agreeing) (omega arith) (omega arith) in
+    (search needs, omega (arith, entry .pre .0, entry .pre .1, short, first .put-open-line .ensures .next, written-length (first .put-open-line .ensures))))
+    (λ c. search needs)
+    (λ c. search written-then))

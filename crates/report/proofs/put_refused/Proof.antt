@@ -1,27 +1,17 @@
--- `report::put_refused` meets its contract: the line of a refusal.
+-- The line has at most 30 bytes, for which there is room.
 -- Assumes nothing.
 use native.Mathlib.Omega.{arith}
 use Rattle.lists.specs.Ascii.{ascii}
-use Rattle.report.specs.Report.{line}
-use Rattle.report.specs.Internal.Writing.{lineOfTwo}
-use Rattle.report.proofs.Lines.{field-short}
+use Rattle.report.proofs.Lines.{refused-short}
 use borrow.Author.Needs.{needs}
 use Rattle.report.proofs.put_refused.Statement.{statement}
 use Rattle.report.proofs.put_refused.Tie as tie
 
-slice-aggregate-put-line : tie.Need-slice-aggregate-put-line
-slice-aggregate-put-line c = search needs
-
-put-line-requires : tie.Need-put-line-requires
-put-line-requires c κs = omega (arith, field-short (c .before .before .before .args .number) (omega arith), field-short (c .before .before .before .args .survivors) (omega arith))
-
-same-length : tie.Need-same-length
-same-length c = search needs
-
-returns : tie.Need-returns
-unfolding ascii lineOfTwo line
-returns c = c .before .before .put-line .ensures
-
 pub put-refused-spec : {M : Type 1} → statement M
 put-refused-spec =
-    tie.close (tie.spec slice-aggregate-put-line put-line-requires same-length returns)
+    tie.close
+    (tie.spec
+    (λ c. search needs)
+    (λ c κs. let entry : tie.Start = search in unfold ascii in omega (arith, refused-short (entry .args .number) (entry .args .survivors) (omega arith) (omega arith)))
+    (λ c. search needs)
+    (λ c. unfold ascii in search needs))

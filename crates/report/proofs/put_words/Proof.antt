@@ -1,10 +1,11 @@
--- `report::put_words` meets its contract. The loop's invariant: the lines of the first k words are written.
+-- The lines of the first k words are written, with at most 14 bytes each, and at the end those of all.
 -- Assumes nothing.
 use native.Mathlib.Omega.{arith}
 use Prim.Native.Nat.{_-_}
 use lib.ListN.{length}
-use Rattle.report.proofs.Writing.{written-length}
+use Rattle.text.proofs.Writing.{written-length}
 use Rattle.report.proofs.Lines.{Lined, lined-first, lined-next, lined-last}
+use borrow.Author.Needs.{needs}
 use Rattle.report.proofs.put_words.Statement.{statement}
 use Rattle.report.proofs.put_words.Tie as tie
 
@@ -14,49 +15,28 @@ Inv-loop secret output₀ at end₀ k₀ output end k = Lined secret output₀ a
 abbrev μ-loop : tie.MeasureT-loop
 μ-loop secret output₀ at end₀ k₀ output end k = length secret - k
 
-loop-holds : tie.Need-loop-holds Inv-loop μ-loop
-loop-holds c = lined-first _ _ _ (omega arith)
-
-add-put-word-line : tie.Need-add-put-word-line Inv-loop μ-loop
-add-put-word-line c = omega arith
-
-mul-put-word-line : tie.Need-mul-put-word-line Inv-loop μ-loop
-mul-put-word-line c = omega arith
-
-shared-slice-read-put-word-line : tie.Need-shared-slice-read-put-word-line Inv-loop μ-loop
-shared-slice-read-put-word-line c = omega arith
-
-put-word-line-requires : tie.Need-put-word-line-requires Inv-loop μ-loop
-put-word-line-requires c κs = (omega (arith, c .before .before .before .before .before .before .pre .0, c .before .before .loop-test .taken), omega (arith, c .before .before .before .before .before .before .pre .1, c .before .before .loop-test .taken, c .before .before .before .loop .inv .written .next, c .before .before .before .loop .inv .short, written-length (c .before .before .before .loop .inv .written)))
-
-add-k : tie.Need-add-k Inv-loop μ-loop
-add-k c = omega (arith, c .before .before .before .before .before .before .before .before .before .pre .0, c .before .before .before .before .before .loop-test .taken)
-
-loop-less : tie.Need-loop-less Inv-loop μ-loop
-loop-less c = omega (arith, c .before .before .before .before .before .loop-test .taken)
-
-loop-again : tie.Need-loop-again Inv-loop μ-loop
-loop-again c = lined-next (c .before .before .before .before .before .before .before .before .before .args .secret .now) _ _ _ _ _ (c .before .before .before .before .before .loop-test .taken) (omega (arith, c .before .before .before .before .before .before .before .before .before .pre .0, c .before .before .before .before .before .loop-test .taken)) (omega (arith, c .before .before .before .before .shared-slice-known2 .given (c .before .before .before .before .before .before .loop .k))) _ _ (c .before .before .before .before .before .before .loop .inv) (c .before .before .put-word-line .ensures)
-
-same-length : tie.Need-same-length Inv-loop μ-loop
-same-length c = written-length (c .before .loop .inv .written)
-
-returns : tie.Need-returns Inv-loop μ-loop
-returns c = lined-last _ _ _ _ _ _ (c .loop-test .left) (c .before .loop .inv)
-
 pub put-words-spec : {M : Type 1} → statement M
 put-words-spec =
     tie.close
     (tie.spec
     Inv-loop
     μ-loop
-    loop-holds
-    add-put-word-line
-    mul-put-word-line
-    shared-slice-read-put-word-line
-    put-word-line-requires
-    add-k
-    loop-less
-    loop-again
-    same-length
-    returns)
+    (λ c. lined-first _ _ _ (omega arith))
+    -- end = put_word_line(k + 1, secret[k], output, end);
+    (λ c. omega arith)
+    (λ c. omega arith)
+    (λ c. omega arith)
+    (λ c κs.
+    let (entry, at-loop, in-loop) : tie.Start Inv-loop μ-loop × tie.At-loop Inv-loop μ-loop × tie.In-loop Inv-loop μ-loop = (search, search, search) in
+    let lined = at-loop .loop .inv in
+    (search needs, omega (arith, entry .pre .1, in-loop .loop-test .taken, lined .written .next, lined .short, written-length (lined .written))))
+    -- k += 1;
+    (λ c. search needs)
+    (λ c. search needs)
+    (λ c.
+    let (entry, at-loop, in-loop) : tie.Start Inv-loop μ-loop × tie.At-loop Inv-loop μ-loop × tie.In-loop Inv-loop μ-loop = (search, search, search) in
+    let (word, done) : tie.After-shared-slice-known2 Inv-loop μ-loop × tie.After-put-word-line Inv-loop μ-loop = (search, search) in
+    lined-next (entry .args .secret .now) _ _ _ _ _ (in-loop .loop-test .taken) (omega (arith, entry .pre .0, in-loop .loop-test .taken))
+    (omega (arith, word .shared-slice-known2 .given (at-loop .loop .k))) _ _ (at-loop .loop .inv) (done .put-word-line .ensures))
+    (λ c. search written-length)
+    (λ c. search lined-last))

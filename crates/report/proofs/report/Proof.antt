@@ -1,22 +1,15 @@
--- `report::report` meets its contract. It lends the reader's buffer and the secret buffer.
+-- It lends the buffers of the reader and of the secret, and what is written from the front on is the answer.
 -- Assumes nothing.
-use Rattle.report.proofs.Writing.{written-front, written-count}
+use Rattle.text.proofs.Writing.{written-front, written-count}
 use borrow.Author.Needs.{needs}
 use Rattle.report.proofs.report.Statement.{statement}
 use Rattle.report.proofs.report.Tie as tie
 
-slice-aggregate-print-text : tie.Need-slice-aggregate-print-text
-slice-aggregate-print-text c = search needs
-
-slice-aggregate-print-text-2 : tie.Need-slice-aggregate-print-text-2
-slice-aggregate-print-text-2 c = search needs
-
-print-text-requires : tie.Need-print-text-requires
-print-text-requires c κs = search needs
-
-returns : tie.Need-returns
-returns c = record { printed = written-front (c .before .before .print-text .ensures); long = written-count (c .before .before .print-text .ensures) }
-
 pub report-spec : {M : Type 1} → statement M
 report-spec =
-    tie.close (tie.spec slice-aggregate-print-text slice-aggregate-print-text-2 print-text-requires returns)
+    tie.close
+    (tie.spec
+    (λ c. search needs)
+    (λ c. search needs)
+    (λ c κs. search needs)
+    (λ c. search (written-front, written-count)))

@@ -1,33 +1,18 @@
--- `test_opening::prints` is safe and ends: what is printed is in the buffer.
+-- What is printed is in the buffer, so the part that is written out is inside it.
 -- Assumes nothing.
 use mathlib.Core.Path.{sym}
 use lib.Seq.{length-take-le}
-use Rattle.report.proofs.Writing.{reported-inside}
+use Rattle.report.proofs.Lines.{reported-inside}
 use borrow.Author.Needs.{needs}
 use Rattle.test_opening.proofs.prints.Statement.{statement}
 use Rattle.test_opening.proofs.prints.Tie as tie
-
-report-requires : tie.Need-report-requires
-report-requires c κs = search needs
-
-array-share-prefix-output : tie.Need-array-share-prefix-output
-array-share-prefix-output c = reported-inside (c .report .ensures)
-
-slice-aggregate-write-all : tie.Need-slice-aggregate-write-all
-slice-aggregate-write-all c = sym (length-take-le _ _ (reported-inside (c .before .report .ensures)))
-
-write-all-requires : tie.Need-write-all-requires
-write-all-requires c κs = search needs
-
-returns : tie.Need-returns
-returns c = search needs
 
 pub prints-spec : {M : Type 1} → statement M
 prints-spec =
     tie.close
     (tie.spec
-    report-requires
-    array-share-prefix-output
-    slice-aggregate-write-all
-    write-all-requires
-    returns)
+    (λ c κs. search needs)
+    (λ c. search reported-inside)
+    (λ c. let at-report : tie.After-report = search in sym (length-take-le _ _ (reported-inside (at-report .report .ensures))))
+    (λ c κs. search needs)
+    (λ c. search needs))
