@@ -5,26 +5,24 @@ use mathlib.Core.Bool.{true}
 use mathlib.Core.List.{List, [], _∷_}
 use Prim.Native.Nat.{ℕ, suc, _+_, _*_, _≤_, _<_}
 use native.Mathlib.Omega.{arith}
-use lib.Dec.{eqb}
 use lib.ListN.{length, getD, drop, length-take}
 use borrow.Author.Tests.{ltb-true, lt-ltb, eqb-true}
 use Rattle.lists.specs.Tabulate.{tab, each, concat}
-use Rattle.lists.specs.Checks.{_unless_, Check}
 use Rattle.lists.proofs.Every.{Every, none, more, every-map}
 use Rattle.lists.proofs.Tabulate.{length-tab, getD-tab}
 use Rattle.lists.proofs.Blocks.{length-concat, getD-concat, every-tab, every-concat, every-getD, each-every, every-each}
-use Rattle.lists.proofs.Checks.{all-pass, within-intro, within-low, within-high}
+use Rattle.lists.proofs.Checks.{within-intro, within-low, within-high}
 use Rattle.field.specs.Field.{prime, isFieldWord}
 use Rattle.polynomial.specs.Polynomial.{eval, value}
 use Rattle.polynomial.proofs.Evaluation.{value-word}
 use Rattle.mac.specs.Tag.{tag}
 use Rattle.mac.proofs.Tags.{tag-word}
-use Rattle.members.specs.Members.{isThreshold, size, ownPoints}
-use Rattle.shares.specs.Layout.{isLength, width, word, shareWord, shareWords, tagWord, keyα, keyβ}
+use Rattle.members.specs.Members.{size, ownPoints}
+use Rattle.shares.specs.Layout.{width, word, shareWord, shareWords, tagWord, keyα, keyβ}
 use Rattle.shares.proofs.Assembled.{assembled-length, assembled-every, share-word-is, share-words-are, tag-is, α-is, β-is}
 use Rattle.shares.proofs.Reading.{word-every}
 use Rattle.dealing.specs.Dealing.{randomLength, polynomial, dealtα, dealtβ, dealtWords, dealtTag, dealtShare, dealtShares, Dealt, deal}
-use Rattle.dealing.proofs.Refusals.{refusal, dealt}
+use Rattle.dealing.proofs.Refusals.{dealt, checks, all-accept}
 
 -- The polynomials: t + 1 coefficients, and the secret word at 0.
 
@@ -150,35 +148,22 @@ module _ (t : ℕ) (secret random buffer : List ℕ) where
       (r .random-length) (r .buffer-length)
       (words-field (r .secret-words)) (words-field (r .random-words)) (dealtShares (ownPoints t) t secret random) refl)
 
-  checks : List Check
-  checks =
-      1 unless isThreshold t
-      ∷ 2 unless isLength (length secret)
-      ∷ 3 unless eqb (length random) (randomLength t (length secret))
-      ∷ 4 unless eqb (length buffer) (size t * width t (length secret))
-      ∷ 5 unless each isFieldWord secret
-      ∷ 6 unless each isFieldWord random
-      ∷ []
-
-  passed : Every (λ c. c .passes ≡ true) checks → Acceptable t secret random buffer
-  unfolding checks
-  passed (more p1 (more p2 (more p3 (more p4 (more p5 (more p6 none)))))) =
-      record {
-        threshold-low = within-low 1 15 t p1;
-        threshold-high = within-high 1 15 t p1;
-        length-low = within-low 1 64 (length secret) p2;
-        length-high = within-high 1 64 (length secret) p2;
-        random-length = eqb-true (length random) (randomLength t (length secret)) p3;
-        buffer-length = eqb-true (length buffer) (size t * width t (length secret)) p4;
-        secret-words = field-words secret p5;
-        random-words = field-words random p6;
-      }
-
   pub accepted-in-range : deal t secret random buffer .number ≡ 0 → Acceptable t secret random buffer
-  unfolding deal checks each
+  unfolding checks
   accepted-in-range h =
-      passed
-      (all-pass (refusal buffer) (λ a. a .number) (λ k. refl) checks refl (record { number = 0; shares = dealtShares (ownPoints t) t secret random }) h)
+      elim (all-accept t secret random buffer h) [
+        | more p1 (more p2 (more p3 (more p4 (more p5 (more p6 none))))) ↦
+            record {
+              threshold-low = within-low 1 15 t p1;
+              threshold-high = within-high 1 15 t p1;
+              length-low = within-low 1 64 (length secret) p2;
+              length-high = within-high 1 64 (length secret) p2;
+              random-length = eqb-true (length random) (randomLength t (length secret)) p3;
+              buffer-length = eqb-true (length buffer) (size t * width t (length secret)) p4;
+              secret-words = field-words secret p5;
+              random-words = field-words random p6;
+            }
+      ]
 
   pub accepted-shares : (dealt : List ℕ) → deal t secret random buffer ≡ record { number = 0; shares = dealt }
       → dealt ≡ dealtShares (ownPoints t) t secret random

@@ -13,7 +13,7 @@ use Rattle.shares.proofs.Places.{row-inside}
 use Rattle.dealing.specs.Dealing.{randomLength, dealtα, dealtβ}
 use Rattle.dealing.specs.Internal.Steps.{KeyAt}
 
--- word k's coefficients are among the random words
+-- word k's coefficients are among the random words, and all of them are few
 pub coefficients-inside : (t d k count : ℕ) → count ≡ randomLength t d → k < d → t * k + t ≤ count
 unfolding randomLength
 coefficients-inside t d k count e h = let m : t * suc k ≤ t * d = mul-le-mul-left t h in omega (arith, m, mul-suc t k, e)
@@ -25,7 +25,7 @@ module _ (s : Shape) (st : Station s) where
   pub row-le : (i : ℕ) → i ≤ s .n → i * s .n ≤ 961
   row-le i p = mul-le-mul {n₂ = 31} {m₂ = 31} (omega (arith, st .few)) (st .few)
 
-  -- and so is key(i,j)
+  -- key(i,j) stands where the code looks, among the random words
   pub key-at : (i j : ℕ) → i < s .n → j < s .n → KeyAt s i j (s .t * s .d + 2 * (i * s .n + j))
   unfolding randomLength
   key-at i j p q =

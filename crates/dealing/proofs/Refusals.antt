@@ -8,8 +8,9 @@ use lib.Dec.{eqb}
 use lib.ListN.{length}
 use borrow.Author.Tests.{eq-eqb, ne-eqb}
 use Rattle.lists.specs.Tabulate.{each}
-use Rattle.lists.specs.Checks.{_unless_}
-use Rattle.lists.proofs.Checks.{number-fits}
+use Rattle.lists.specs.Checks.{Check, _unless_}
+use Rattle.lists.proofs.Checks.{all-pass, number-fits}
+use Rattle.lists.proofs.Every.{Every}
 use Rattle.field.specs.Field.{isFieldWord}
 use Rattle.members.specs.Members.{isThreshold, size, ownPoints}
 use Rattle.shares.specs.Layout.{isLength, width}
@@ -60,16 +61,25 @@ module _ (t : ℕ) (secret random buffer : List ℕ) where
             unfolding deal
             dealt e₆ shares e = rw (e₁, e₂, t₃, t₄, e₅, e₆, e)
 
--- the answer's number fits a word
-pub dealt-fits : (t : ℕ) (secret random buffer : List ℕ) → deal t secret random buffer .number ≤ 65535
-unfolding deal each
-dealt-fits t secret random buffer =
-    number-fits (refusal buffer) (λ a. a .number) (λ k. refl)
-    (1 unless isThreshold t
-    ∷ 2 unless isLength (length secret)
-    ∷ 3 unless eqb (length random) (randomLength t (length secret))
-    ∷ 4 unless eqb (length buffer) (size t * width t (length secret))
-    ∷ 5 unless each isFieldWord secret
-    ∷ 6 unless each isFieldWord random
-    ∷ [])
-    refl (record { number = 0; shares = dealtShares (ownPoints t) t secret random }) zero-le
+  -- all of them
+  unfoldable pub checks : List Check
+  checks =
+      1 unless isThreshold t
+      ∷ 2 unless isLength (length secret)
+      ∷ 3 unless eqb (length random) (randomLength t (length secret))
+      ∷ 4 unless eqb (length buffer) (size t * width t (length secret))
+      ∷ 5 unless each isFieldWord secret
+      ∷ 6 unless each isFieldWord random
+      ∷ []
+
+  -- the answer's number fits a word
+  pub dealt-fits : deal t secret random buffer .number ≤ 65535
+  unfolding deal each checks
+  dealt-fits =
+      number-fits (refusal buffer) (λ a. a .number) (λ k. refl) checks refl (record { number = 0; shares = dealtShares (ownPoints t) t secret random }) zero-le
+
+  -- an accepted input has passed all checks
+  pub all-accept : deal t secret random buffer .number ≡ 0 → Every (λ c. c .passes ≡ true) checks
+  unfolding deal each checks
+  all-accept h =
+      all-pass (refusal buffer) (λ a. a .number) (λ k. refl) checks refl (record { number = 0; shares = dealtShares (ownPoints t) t secret random }) h

@@ -27,14 +27,14 @@ module _ (t d : ℕ) (words tags keys : List ℕ) (w : length words ≡ d) (g : 
       ap length parts ∙ length-append words (tags ++ keys) ∙ ap₂ _+_ w (length-append tags keys ∙ ap₂ _+_ g k) ∙ omega arith
 
   -- share word k, the tag for member j, word k of the keys
-  pub assembled-word : (k : ℕ) → k < d → getD (assembled words tags keys) (wordPlace k) 0 ≡ getD words k 0
+  assembled-word : (k : ℕ) → k < d → getD (assembled words tags keys) (wordPlace k) 0 ≡ getD words k 0
   assembled-word k h = ap (λ (l : List ℕ). getD l k 0) parts ∙ List·getD-append words (tags ++ keys) 0 k (omega (arith, w))
 
-  pub assembled-tag : (j : ℕ) → j < size t → getD (assembled words tags keys) (tagPlace d j) 0 ≡ getD tags j 0
+  assembled-tag : (j : ℕ) → j < size t → getD (assembled words tags keys) (tagPlace d j) 0 ≡ getD tags j 0
   assembled-tag j h =
       ap (λ (l : List ℕ). getD l (d + j) 0) parts ∙ getD-after words (tags ++ keys) d j 0 w ∙ List·getD-append tags keys 0 j (omega (arith, g))
 
-  pub assembled-key : (k p : ℕ) → p ≡ keyPlace t d 0 + k → getD (assembled words tags keys) p 0 ≡ getD keys k 0
+  assembled-key : (k p : ℕ) → p ≡ keyPlace t d 0 + k → getD (assembled words tags keys) p 0 ≡ getD keys k 0
   assembled-key k p e =
       let place : p ≡ d + (size t + k) = omega arith in
       ap₂ (λ (l : List ℕ) (q : ℕ). getD l q 0) parts place

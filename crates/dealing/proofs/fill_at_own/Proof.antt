@@ -7,6 +7,7 @@ use lib.ListN.{length}
 use borrow.Author.Needs.{needs}
 use Rattle.lists.specs.Tabulate.{tab}
 use Rattle.members.specs.Members.{ownPoints}
+use Rattle.members.proofs.Points.{own-written}
 use Rattle.shares.specs.Internal.Shape.{Station}
 use Rattle.shares.specs.declared.Shape.{Shape}
 use Rattle.dealing.specs.Dealing.{dealtShares}
@@ -15,9 +16,8 @@ use Rattle.dealing.proofs.fill_at_own.Tie as tie
 
 at-own : (s : Shape) (points₀ points secret random shares : List ℕ) → Station s → length points₀ ≡ s .n → points ≡ tab (length points₀) (λ i. suc i)
     → shares ≡ dealtShares points (s .t) secret random → shares ≡ dealtShares (ownPoints (s .t)) (s .t) secret random
-unfolding ownPoints
 at-own s points₀ points secret random shares st long e es =
-    es ∙ ap (λ (xs : List ℕ). dealtShares xs (s .t) secret random) (e ∙ ap (λ (n : ℕ). tab n (λ i. suc i)) (long ∙ st .members))
+    es ∙ ap (λ (xs : List ℕ). dealtShares xs (s .t) secret random) (own-written (s .t) (length points₀) points (long ∙ st .members) e)
 
 pub fill-at-own-spec : {M : Type 1} → statement M
 fill-at-own-spec =
