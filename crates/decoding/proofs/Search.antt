@@ -51,14 +51,14 @@ meets-every g a b [] m = every-none
 meets-every g a b (i ∷ ms) (meets-more h m) = more h (meets-every g a b ms m)
 
 -- the test of the search
-abbrev enoughAgree : List ℕ → ℕ → ℕ → (ℕ → ℕ → ℕ) → ℕ → List (List ℕ) → Bool
-enoughAgree xs t d y set fs = leb (need t (card (size t) set)) (card (size t) (agreeing xs t d y set (nth fs)))
+abbrev isFit : List ℕ → ℕ → ℕ → (ℕ → ℕ → ℕ) → ℕ → List (List ℕ) → Bool
+isFit xs t d y set fs = leb (need t (card (size t) set)) (card (size t) (agreeing xs t d y set (nth fs)))
 
 pub find-found : (xs : List ℕ) (t d : ℕ) (y : ℕ → ℕ → ℕ) (set : ℕ) (fs : List (List ℕ)) → find xs t d y set ≡ some fs → Found xs t d y set fs
 unfolding find through
 find-found xs t d y set fs e =
     let tries : List (List ℕ) = choose (suc t) (membersOf (size t) set) in
-    let r = Memᴰ·of-map (through xs d y) tries (first-member (enoughAgree xs t d y set) (map (through xs d y) tries) e) in
+    let r = Memᴰ·of-map (through xs d y) tries (first-member (isFit xs t d y set) (map (through xs d y) tries) e) in
     let ms : List ℕ = r .0 in
     let same : (k : ℕ) → k < d → nth fs k ≡ throughAt xs y ms k = λ k h. ap (λ (l : List (List ℕ)). nth l k) (sym (r .2)) ∙ nth-through xs d y ms k h in
     let long : (k : ℕ) → k < d → length (nth fs k) ≡ suc t =
@@ -66,7 +66,7 @@ find-found xs t d y set fs e =
     record {
       fits = record {
         degree = λ k h. le-of-eq (long k h);
-        enough = leb-true _ _ (first-passes (enoughAgree xs t d y set) (map (through xs d y) tries) e);
+        enough = leb-true _ _ (first-passes (isFit xs t d y set) (map (through xs d y) tries) e);
       };
       places = ap length (sym (r .2)) ∙ length-tab d (throughAt xs y ms);
       lengths = long;
@@ -110,7 +110,7 @@ module _ (xs : List ℕ) (distinct : Distinct xs) (t : ℕ) (long : length xs �
       (through-same f ms (λ k h. le-trans (F .degree k h) (le-of-eq (sym many)))
       (Sublistᴰ·trans (take-sub (suc t) (passing (size t) p)) (passing-sub (size t) p))
       (every-sub (take-sub (suc t) (passing (size t) p)) (passing-every (size t) p)))) in
-      first-finds (enoughAgree xs t d y set) (map (through xs d y) (choose (suc t) (membersOf (size t) set))) (Memᴰ·map (through xs d y) chosen)
+      first-finds (isFit xs t d y set) (map (through xs d y) (choose (suc t) (membersOf (size t) set))) (Memᴰ·map (through xs d y) chosen)
       (le-leb _ _ (le-trans (F .enough) (le-of-eq (ap (card (size t)) same))))
 
   pub find-none : find xs t d y set ≡ none → (f : ℕ → List ℕ) → Fits xs t d y set f → ⊥
