@@ -1,7 +1,7 @@
 -- The words one after the other come to the polynomials of all words: the turn of the loop, for any distinct points and then at the members' own.
 -- Assumes nothing.
 use mathlib.Core.Path.{_≡_, refl, sym, ap, ap₂, _∙_, subst}
-use mathlib.Core.Bool.{Bool, _&&_, cond, and-true, and-assoc}
+use mathlib.Core.Bool.{Bool, true, false, _&&_, cond, and-true, and-assoc}
 use mathlib.Core.Logic.{inl, inr}
 use mathlib.Core.Option.{Option, none, some}
 use mathlib.Core.List.{List, [], _∷_, _++_}
@@ -9,10 +9,10 @@ use Prim.Native.Nat.{ℕ, suc, _+_, _≤_, _<_, _^_, zero-le}
 use native.Mathlib.Nat.{le-trans, le-of-eq, not-suc-le-zero, eq-or-lt-of-le, le-of-suc-le-suc}
 use native.Mathlib.Numerals.{add-one}
 use native.Mathlib.Omega.{arith}
-use lib.Dec.{eqb}
+use lib.Dec.{eqb, ltb}
 use lib.ListN.{length, getD, take, set, length-set}
 use lib.Seq.{take-suc-set, take-all}
-use borrow.Author.Tests.{le-leb}
+use borrow.Author.Tests.{le-leb, ltb-true, ltb-false}
 use Rattle.lists.specs.Tabulate.{tab, all}
 use Rattle.lists.proofs.Blocks.{tab-more}
 use Rattle.lists.proofs.Tabulate.{tab-ext, getD-tab, all-last}
@@ -29,7 +29,7 @@ use Rattle.shares.specs.declared.Shape.{Shape}
 use Rattle.decoding.specs.declared.Outcome.{Outcome}
 use Rattle.decoding.specs.declared.Outcome.the-variants.{Refused}
 use Rattle.decoding.specs.Answer.{answerOf}
-use Rattle.decoding.specs.Decoding.{surplus, need, agreeing, nth, find, decode}
+use Rattle.decoding.specs.Decoding.{surplus, need, agreeing, nth, find, decodedFrom}
 use Rattle.decoding.proofs.Apart.{too-few}
 use Rattle.decoding.proofs.Points.{own-distinct}
 use Rattle.decoding.proofs.Unique.{agreeing-same}
@@ -184,33 +184,32 @@ module _ {shape : Shape} {words : List ℕ} (room : Room shape words) {s : ℕ} 
 
     module _ (more : k < d) where
       -- the decoder finds nothing for word k
-      pub opening-none : {values : List ℕ} → values ≡ tab (shape .n) (λ i. shareWord t d words i k) → {len : ℕ} → len ≡ suc t
-          → (r : Outcome) (f : List ℕ) → answerOf r f ≡ decode t values s len → {m : ℕ} → r ≡ Refused m
+      pub opening-none : {values : List ℕ} → values ≡ tab (shape .n) (λ i. shareWord t d words i k)
+          → (r : Outcome) (f : List ℕ) → answerOf r f ≡ decodedFrom (suc t) (find (ownPoints t) t 1 (λ i j. shareWord t d words i k) s) → {m : ℕ} → r ≡ Refused m
           → {answer : Opened} → answer ≡ unopened (length secret) s 16 → answer ≡ answered
-      opening-none {values} ev {len} el r f a {m} e {answer} =
+      opening-none {values} ev r f a {m} e {answer} =
           nothing (ownPoints t) t d y s
-          (no-word (ownPoints t) (own-distinct t low) t (length-own t) d y s k more
-          (word-refused shape words room s dec k more values ev len el r f a m e))
+          (no-word (ownPoints t) (own-distinct t low) t (length-own t) d y s k more (word-refused shape words room s dec k more values ev r f a m e))
           answer (length secret) (going .length-secret)
 
-      module _ {left v : ℕ} (turned : Turned (ownPoints t) t y s agreed k left v)
-          {c all enough : ℕ} (ec : c ≡ card 32 left) (ea : all ≡ card 32 s) (ee : enough ≡ need t all) where
-        counted : c ≡ card (size t) left
+      module _ {left v : ℕ} (turned : Turned (ownPoints t) t y s agreed k left v) {b : Bool} (eb : b ≡ ltb (card 32 left) (need t (card 32 s))) where
+        counted : card 32 left ≡ card (size t) left
         counted =
-            ec
-            ∙ card-32 t left low
+            card-32 t left low
             (subst (λ (m : ℕ). m < 2 ^ size t) (sym (turned .members))
             (setOf-lt (size t) (λ i. has agreed i && eqb (value (turned .f) (getD (ownPoints t) i 0)) (y i k))))
 
-        needed : enough ≡ need t (card (size t) s)
-        needed = ee ∙ ap (need t) (ea ∙ card-32 t s low (dec .below))
+        compared : b ≡ ltb (card (size t) left) (need t (card (size t) s))
+        compared = eb ∙ ap₂ (λ (a c : ℕ). ltb a (need t c)) counted (card-32 t s low (dec .below))
 
-        pub opening-few : c < enough → (x : ℕ) {answer : Opened} → answer ≡ unopened (length (set secret k x)) s 16 → answer ≡ answered
+        pub opening-few : b ≡ true → (x : ℕ) {answer : Opened} → answer ≡ unopened (length (set secret k x)) s 16 → answer ≡ answered
         opening-few few x {answer} =
             nothing (ownPoints t) t d y s
-            (going-few (ownPoints t) (own-distinct t low) t (length-own t) d y s agreed secret k going more left v turned (omega (arith, few, counted, needed)))
+            (going-few (ownPoints t) (own-distinct t low) t (length-own t) d y s agreed secret k going more left v turned
+            (ltb-true (card (size t) left) (need t (card (size t) s)) (sym compared ∙ few)))
             answer (length (set secret k x)) (length-set secret k x ∙ going .length-secret)
 
-        pub opening-next : enough ≤ c → {x : ℕ} → x ≡ v → Opening left (set secret k x) (k + 1)
+        pub opening-next : b ≡ false → {x : ℕ} → x ≡ v → Opening left (set secret k x) (k + 1)
         opening-next many {x} =
-            going-next (ownPoints t) (own-distinct t low) t (length-own t) d y s agreed secret k going more left v turned (omega (arith, many, counted, needed)) x
+            going-next (ownPoints t) (own-distinct t low) t (length-own t) d y s agreed secret k going more left v turned
+            (ltb-false (card (size t) left) (need t (card (size t) s)) (sym compared ∙ many)) x

@@ -91,19 +91,19 @@ module _ (shape : Shape) (words : List ℕ) (room : Room shape words) (s : ℕ) 
           | inr e ↦ rw e
         ]
 
-    module _ (len : ℕ) (el : len ≡ suc t) (r : Outcome) (f : List ℕ) (a : answerOf r f ≡ decode t values s len) where
-      -- the decoder's answer is that of the word
-      decodes : answerOf r f ≡ decodedFrom (suc t) found
-      decodes =
-          a
-          ∙ accepts t values s len (is-threshold t (shape .d) (room .station .range)) (eq-eqb (length values) (size t) as-many) (eq-eqb len (suc t) el)
-          (lt-ltb s (2 ^ size t) (dec .below)) (le-leb (suc t) (card (size t) s) (dec .enough)) (all-intro (size t) (judgedAt values s) judged)
-          ∙ ap (decodedFrom (suc t))
-          (find-ext (ownPoints t) (own-distinct t (room .station .range .t-high)) t (length-own t) 1 s (λ i j. getD values i 0) (λ i j. theWord i)
-          (λ i l j m. value-at i l))
+    -- the decoder's answer is that of the word
+    pub decodes : (len : ℕ) → len ≡ suc t → (r : Outcome) (f : List ℕ) → answerOf r f ≡ decode t values s len → answerOf r f ≡ decodedFrom (suc t) found
+    decodes len el r f a =
+        a
+        ∙ accepts t values s len (is-threshold t (shape .d) (room .station .range)) (eq-eqb (length values) (size t) as-many) (eq-eqb len (suc t) el)
+        (lt-ltb s (2 ^ size t) (dec .below)) (le-leb (suc t) (card (size t) s) (dec .enough)) (all-intro (size t) (judgedAt values s) judged)
+        ∙ ap (decodedFrom (suc t))
+        (find-ext (ownPoints t) (own-distinct t (room .station .range .t-high)) t (length-own t) 1 s (λ i j. getD values i 0) (λ i j. theWord i)
+        (λ i l j m. value-at i l))
 
+    module _ (r : Outcome) (f : List ℕ) (a : answerOf r f ≡ decodedFrom (suc t) found) where
       pub word-refused : (m : ℕ) → r ≡ Refused m → found ≡ none
-      word-refused m e = refused-none (suc t) m f found (ap (λ (x : Outcome). answerOf x f) (sym e) ∙ decodes)
+      word-refused m e = refused-none (suc t) m f found (ap (λ (x : Outcome). answerOf x f) (sym e) ∙ a)
 
       pub word-found : r ≡ Found → (points : List ℕ) → points ≡ ownPoints t → (agreed left v : ℕ) → v ≡ value f 0
           → left ≡ setOf (length values) (λ i. has agreed i && eqb (value f (getD points i 0)) (getD values i 0))
@@ -114,7 +114,7 @@ module _ (shape : Shape) (words : List ℕ) (room : Room shape words) (s : ℕ) 
             f = f;
             found =
                 found-one (suc t) f found (λ fs q. find-found (ownPoints t) t 1 (λ i j. theWord i) s fs q .places)
-                (ap (λ (x : Outcome). answerOf x f) (sym e) ∙ decodes);
+                (ap (λ (x : Outcome). answerOf x f) (sym e) ∙ a);
             members =
                 meet
                 ∙ ap₂ (λ (m : ℕ) (xs : List ℕ). setOf m (met xs)) as-many own

@@ -2,13 +2,13 @@
 -- Assumes nothing.
 use mathlib.Core.Path.{_≡_, sym, ap, _∙_, subst}
 use mathlib.Core.Logic.{inl, inr}
-use mathlib.Core.Bool.{true, false, _&&_}
+use mathlib.Core.Bool.{true, _&&_}
 use mathlib.Core.List.{List}
 use Prim.Native.Nat.{ℕ, _≤_, _<_, _^_}
 use native.Mathlib.Omega.{arith}
 use lib.ListN.{length, getD}
 use borrow.Author.Tests.{le-leb, lt-leb, lt-ltb, eq-eqb}
-use Rattle.lists.specs.Tabulate.{tab, each}
+use Rattle.lists.specs.Tabulate.{each}
 use Rattle.lists.proofs.Blocks.{every-tab, every-each}
 use Rattle.lists.proofs.Bools.{test, clash, and-left}
 use Rattle.lists.proofs.Count.{count-some}

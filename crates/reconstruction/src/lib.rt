@@ -2,17 +2,18 @@
 ghost use mathlib.Core.Path.{_≡_};
 ghost use mathlib.Core.Bool.{true, cond, _&&_};
 ghost use Prim.Native.Nat.{suc, _<_, _≤_};
-ghost use lib.Dec.{eqb};
+ghost use lib.Dec.{eqb, ltb};
 ghost use lib.ListN.{length, getD};
 ghost use Rattle.lists.specs.Checks.{refusal};
 ghost use Rattle.lists.specs.Tabulate.{tab, each};
 ghost use Rattle.polynomial.specs.Polynomial.{value};
-ghost use Rattle.members.specs.Members.{isThreshold, size, ownPoints, has, setOf, isSet, adding};
+ghost use Rattle.members.specs.Members.{isThreshold, size, ownPoints, has, setOf, isSet, card, adding};
 ghost use Rattle.shares.specs.Layout.{shareWord};
 ghost use Rattle.shares.specs.Internal.Shape.{Station, Room};
 ghost use Rattle.voting.specs.Votes.{usable, voteRows};
 ghost use Rattle.pruning.specs.Pruning.{survivors};
-ghost use Rattle.decoding.specs.Decoding.{find};
+ghost use Rattle.decoding.specs.Answer.{answerOf as decodedOf};
+ghost use Rattle.decoding.specs.Decoding.{need, find, decodedFrom};
 ghost use Rattle.reconstruction.specs.Answer.{answerOf};
 ghost use Rattle.reconstruction.specs.Reconstruction.{unopened, isQuorum, required, openedFrom, finish, reconstruct as reconstructOf};
 ghost use Rattle.reconstruction.specs.Internal.Steps.{Voted, Decodable};
@@ -76,6 +77,34 @@ fn meeting_members(points: &[u16], values: &[u16], f: &[u16], agreed: u32) -> u3
     set
 }
 
+// The decoder's answer for word k, with the members' words and the coefficients in the buffers.
+fn decode_word(
+    s: shares::Shape,
+    shares: &[u16],
+    k: usize,
+    survived: u32,
+    agreed: u32,
+    values: &mut [u16],
+    f: &mut [u16],
+) -> decoding::Outcome
+    requires { ⌜ Room s (now shares) ⌝ }
+    requires { ⌜ Decodable (s .t) (s .d) (now shares) survived ⌝ }
+    requires { ⌜ (k < s .d) × (length (now values) ≡ s .n) × (length (now f) ≡ suc (s .t)) ⌝ }
+    ensures { λ r. ⌜ now (values .exit) ≡ tab (s .n) (λ i. shareWord (s .t) (s .d) (now (shares .entry)) i k) ⌝ }
+    ensures { λ r. ⌜ decodedOf r (now (f .exit)) ≡ decodedFrom (suc (s .t)) (find (ownPoints (s .t)) (s .t) 1 (λ i j. shareWord (s .t) (s .d) (now (shares .entry)) i k) survived) ⌝ }
+{
+    column(s, shares, k, values);
+    decoding::decode_near(s.t, values, survived, agreed, f)
+}
+
+// Fewer survivors are left than have to agree.
+fn too_few(t: usize, survived: u32, left: u32) -> bool
+    requires { ⌜ t ≤ 15 ⌝ }
+    ensures { λ r. ⌜ r ≡ ltb (card 32 left) (need t (card 32 survived)) ⌝ }
+{
+    (members::card(left) as usize) < decoding::need(t as u16, members::card(survived))
+}
+
 // All words, one after the other: the secret, with those of the survivors that meet every word's polynomial; 16 where a word has none, or where too few are left.
 fn open_words(
     s: shares::Shape,
@@ -91,18 +120,15 @@ fn open_words(
     requires { ⌜ (now points ≡ ownPoints (s .t)) × (length (now values) ≡ s .n) × (length (now f) ≡ suc (s .t)) × (length (now secret) ≡ s .d) ⌝ }
     ensures { λ r. ⌜ answerOf r (now (secret .exit)) ≡ openedFrom (ownPoints (s .t)) (s .t) (s .d) (shareWord (s .t) (s .d) (now (shares .entry))) survived (find (ownPoints (s .t)) (s .t) (s .d) (shareWord (s .t) (s .d) (now (shares .entry))) survived) ⌝ }
 {
-    let enough = decoding::need(s.t as u16, members::card(survived));
     let mut agreed = survived;
     let mut k = 0;
     while k < s.d {
-        column(s, shares, k, values);
-        let decoding::Outcome::Found = decoding::decode_near(s.t, values, survived, agreed, f)
-        else {
+        let decoding::Outcome::Found = decode_word(s, shares, k, survived, agreed, values, f) else {
             return refuse(secret, 16, survived); // no polynomial
         };
         secret[k] = polynomial::evaluate(f, 0);
         agreed = meeting_members(points, values, f, agreed);
-        if (members::card(agreed) as usize) < enough {
+        if too_few(s.t, survived, agreed) {
             return refuse(secret, 16, survived); // too few are left
         }
         k = k + 1;

@@ -4,9 +4,8 @@ use mathlib.Core.Path.{_≡_, sym, ap, _∙_}
 use mathlib.Core.Bool.{true, _&&_}
 use mathlib.Core.List.{List}
 use Prim.Native.Nat.{ℕ, _<_}
-use lib.Dec.{eqb}
 use lib.ListN.{getD}
-use borrow.Author.Tests.{lt-ltb, ltb-true, eq-eqb, eqb-true}
+use borrow.Author.Tests.{lt-ltb, ltb-true, eq-eqb}
 use Rattle.lists.proofs.Bools.{and-intro, and-left, and-right}
 use Rattle.lists.proofs.Tabulate.{getD-tab, all-intro, all-elim}
 use Rattle.field.specs.Field.{prime, isFieldWord}
@@ -44,12 +43,6 @@ module _ (t d able : ℕ) (words : List ℕ) where
     pub accepts-intro : has able i ≡ true → has able j ≡ true → tagWord t d words i j ≡ rightTag t d words i j → accepts t d able words j i ≡ true
     unfolding accepts tagHolds
     accepts-intro p q e = and-intro (and-intro p q) (eq-eqb (tagWord t d words i j) (rightTag t d words i j) e)
-
-    pub accepts-tag : accepts t d able words j i ≡ true → tagWord t d words i j ≡ rightTag t d words i j
-    unfolding accepts tagHolds
-    accepts-tag a =
-        eqb-true (tagWord t d words i j) (rightTag t d words i j)
-        (and-right (has able i && has able j) (eqb (tagWord t d words i j) (rightTag t d words i j)) a)
 
     pub accepts-usable : accepts t d able words j i ≡ true → has able i && has able j ≡ true
     unfolding accepts

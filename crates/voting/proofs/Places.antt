@@ -1,6 +1,6 @@
 -- The two tests of shares, as the code makes them at the places of their words.
 -- Assumes nothing.
-use mathlib.Core.Path.{_≡_, sym, ap, ap₂, _∙_}
+use mathlib.Core.Path.{_≡_, ap, ap₂, _∙_}
 use mathlib.Core.Bool.{Bool}
 use mathlib.Core.List.{List}
 use Prim.Native.Nat.{ℕ, _+_, _-_}
@@ -10,7 +10,7 @@ use Rattle.lists.specs.Tabulate.{all, each}
 use Rattle.lists.proofs.Tabulate.{each-tab}
 use Rattle.field.specs.Field.{isFieldWord}
 use Rattle.mac.specs.Tag.{tag}
-use Rattle.shares.specs.Layout.{wordPlace, tagPlace, keyPlace, word, shareWords, tagWord, keyα, keyβ}
+use Rattle.shares.specs.Layout.{wordPlace, tagPlace, keyPlace, word, keyα, keyβ}
 use Rattle.shares.specs.Internal.Shape.{Room, At}
 use Rattle.shares.specs.declared.Shape.{Shape}
 use Rattle.shares.proofs.Reading.{lent, share-at, words-at, tag-at, α-at, β-at}
