@@ -1,5 +1,6 @@
 -- The examples and corners, by computing.
 -- Assumes nothing.
+use mathlib.Core.Path.{refl}
 use Rattle.lists.specs.Ascii.{ascii}
 use Rattle.lists.specs.Tabulate.{tab, each, first, concat}
 use Rattle.members.specs.Members.{size, setOf}
@@ -14,4 +15,38 @@ pub examples : Examples
 unfolding
     before parts decimal leadsWithZero isNumeral numerals isLetter numbersOf lineOf shareOf isSome wordsOr takeShare takeNumbers takeLine takeLines unread
     placed readFrom readNumbers readLines read lineD line1 line2 line3 sampleText keylessText ascii tab each first concat size setOf width sample keyless
-examples = search
+examples =
+    record {
+      c9-read = refl;
+      c10-read = refl;
+      nobody = refl;
+      three-then-one = refl;
+      word-65535 = refl;
+      quorum-65535 = refl;
+      buffer-before-text = refl;
+      text-before-line = refl;
+      text-40000 = refl;
+      empty = refl;
+      unended = refl;
+      blank = refl;
+      line-before-next = refl;
+      t-0 = refl;
+      t-16 = refl;
+      d-0 = refl;
+      d-65 = refl;
+      short = refl;
+      long = refl;
+      second-D = refl;
+      blank-at-end = refl;
+      unended-at-end = refl;
+      member-65536 = refl;
+      last-word-65536 = refl;
+      member-0 = refl;
+      member-4 = refl;
+      member-65535 = refl;
+      member-again = refl;
+      short-member-0 = refl;
+      bad-word-member-again = refl;
+      again-then-junk = refl;
+      junk-then-again = refl;
+    }

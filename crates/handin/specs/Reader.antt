@@ -1,7 +1,7 @@
 -- The reader of hand-in text (document 01): a D line, then P lines, one after the other.
 -- Assumes nothing.
 use Prim.Native.Nat.{ℕ, _+_, _-_, _*_}
-use mathlib.Core.Bool.{Bool, true, false, _&&_, not}
+use mathlib.Core.Bool.{Bool, true, false, not}
 use mathlib.Core.Option.{Option, none, some}
 use mathlib.Core.List.{List, [], _∷_, _++_}
 use lib.Dec.{leb, eqb}
@@ -41,7 +41,7 @@ takeShare t taken number words =
     (24 unless within 1 (size t) number ∷ 24 unless not (isSome (shareOf taken (number - 1))) ∷ [])
     (shares (record { member = number - 1; words = words } ∷ taken))
 
--- a line's numbers: 23 where it is not the letter P and 1 + d + 3n numerals
+-- a line's numbers: 23 where it is not the letter P, the member and the words of a share, all numerals
 unfoldable pub takeNumbers : ℕ → List Share → Option (List ℕ) → Taken
 takeNumbers t taken none = refused 23
 takeNumbers t taken (some ns) = takeShare t taken (getD ns 0 0) (drop 1 ns)

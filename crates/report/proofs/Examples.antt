@@ -1,5 +1,6 @@
 -- The examples and corners, by computing.
 -- Assumes nothing.
+use mathlib.Core.Path.{refl}
 use Rattle.lists.specs.Ascii.{ascii}
 use Rattle.lists.specs.Tabulate.{tab, all, count, keep, each, first, concat, choose}
 use Rattle.field.specs.Field.{difference, product, power, inverse}
@@ -24,4 +25,16 @@ unfolding
     ascii tab all count keep each first concat choose difference product power inverse eval value linear slopes interpolate size ownPoints bit has setOf
     card membersOf surplus need agreeing through find tag width word shareWords tagWord keyα keyβ votes round rounds survivors fieldShare usable tagHolds
     accepts voteRows unopened isQuorum required atZero openedFrom finish reconstruct
-examples = search
+examples =
+    record {
+      c9-printed = refl;
+      c10-printed = refl;
+      two-words = refl;
+      refused-13 = refl;
+      refused-14 = refl;
+      refused-15 = refl;
+      refused-21 = refl;
+      refused-22 = refl;
+      refused-23 = refl;
+      refused-24 = refl;
+    }

@@ -2,7 +2,7 @@
 -- Assumes nothing.
 use mathlib.Core.Path.{_≡_, sym, ap, _∙_}
 use mathlib.Core.List.{List, [], _∷_, _++_}
-use Prim.Native.Nat.{ℕ, suc, _+_, _*_, _^_, _≤_, _<_, zero-le}
+use Prim.Native.Nat.{ℕ, _+_, _*_, _^_, _≤_, _<_, zero-le}
 use native.Mathlib.Numerals.{add-one}
 use native.Mathlib.Omega.{arith}
 use lib.ListN.{length, getD, length-append}
@@ -11,26 +11,23 @@ use Rattle.lists.specs.Tabulate.{tab, concat}
 use Rattle.lists.proofs.Blocks.{concat-more}
 use Rattle.text.specs.Lines.{line}
 use Rattle.text.specs.Internal.Writing.{Written}
-use Rattle.text.proofs.Printing.{length-line, field-most, line-short}
+use Rattle.text.proofs.Printing.{length-line, field-most, field-short}
 use Rattle.text.proofs.Writing.{written-none, written-then}
 use Rattle.report.specs.Report.{wordLine, Reported}
 use Rattle.report.specs.Internal.Printing.{wordLines}
 
--- a place has at most 2 digits and a word at most 5, any number 10
-pub word-short : (place w : ℕ) → place ≤ 64 → w < 65536 → length (line (ascii "WORD") (place ∷ w ∷ [])) ≤ 14
+-- a place has at most 2 digits and a word at most 5
+word-short : (place w : ℕ) → place ≤ 64 → w < 65536 → length (line (ascii "WORD") (place ∷ w ∷ [])) ≤ 14
 unfolding ascii
 word-short place w h fits =
     let p : place < 10 ^ 2 = omega arith in
     let q : w < 10 ^ 5 = omega arith in
     omega (arith, length-line (ascii "WORD") place w, field-most 1 place p, field-most 4 w q)
 
+-- any number has at most 10
 pub open-short : (a b : ℕ) → a < 4294967296 → b < 4294967296 → length (line (ascii "OPEN") (a ∷ b ∷ [])) ≤ 27
 unfolding ascii
-open-short a b p q = line-short (ascii "OPEN") a b p q
-
-pub refused-short : (a b : ℕ) → a < 4294967296 → b < 4294967296 → length (line (ascii "REFUSED") (a ∷ b ∷ [])) ≤ 30
-unfolding ascii
-refused-short a b p q = line-short (ascii "REFUSED") a b p q
+open-short a b p q = omega (arith, length-line (ascii "OPEN") a b, field-short a p, field-short b q)
 
 -- the line of the word at place k, as the code writes it
 word-line : (secret : List ℕ) (k : ℕ) → line (ascii "WORD") ((k + 1) ∷ getD secret k 0 ∷ []) ≡ wordLine secret k

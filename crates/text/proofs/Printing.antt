@@ -31,10 +31,6 @@ line-pieces word a b = simp append-assoc
 pub length-line : (word : List ℕ) (a b : ℕ) → length (line word (a ∷ b ∷ [])) ≡ length word + length (field a) + length (field b) + 1
 length-line word a b = ap length (line-pieces word a b) ∙ simp length-append
 
--- a line of two numbers
-pub line-short : (word : List ℕ) (a b : ℕ) → a < 4294967296 → b < 4294967296 → length (line word (a ∷ b ∷ [])) ≤ length word + 23
-line-short word a b p q = omega (arith, length-line word a b, field-short a p, field-short b q)
-
 -- a line is written by its pieces
 pub written-line : {l m₁ m₂ m₃ word : List ℕ} {at e₁ e₂ e₃ : ℕ} (a b : ℕ)
     → Written l at word m₁ e₁ → Written m₁ e₁ (field a) m₂ e₂ → Written m₂ e₂ (field b) m₃ e₃

@@ -226,7 +226,7 @@ fn put_bytes(bytes: &[u8], output: &mut [u8], at: usize) -> usize
 
 // A line: a word and two numbers.
 pub fn put_line(word: &[u8], a: u32, b: u32, output: &mut [u8], at: usize) -> usize
-    requires { ⌜ at + length (line (now word) (a ∷ b ∷ [])) ≤ length (now output) ⌝ }
+    requires { ⌜ at + length (now word) + length (field a) + length (field b) + 1 ≤ length (now output) ⌝ }
     ensures { λ r. ⌜ Written (now (output .entry)) at (line (now (word .entry)) (a ∷ b ∷ [])) (now (output .exit)) r ⌝ }
 {
     let first = put_bytes(word, output, at);

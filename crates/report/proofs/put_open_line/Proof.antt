@@ -1,8 +1,8 @@
--- The line has at most 27 bytes, for which there is room.
+-- The two fields have at most 11 bytes each, so the line has at most 27.
 -- Assumes nothing.
 use native.Mathlib.Omega.{arith}
 use Rattle.lists.specs.Ascii.{ascii}
-use Rattle.report.proofs.Lines.{open-short}
+use Rattle.text.proofs.Printing.{field-short}
 use borrow.Author.Needs.{needs}
 use Rattle.report.proofs.put_open_line.Statement.{statement}
 use Rattle.report.proofs.put_open_line.Tie as tie
@@ -12,6 +12,6 @@ put-open-line-spec =
     tie.close
     (tie.spec
     (λ c. search needs)
-    (λ c κs. let entry : tie.Start = search in unfold ascii in omega (arith, open-short (entry .args .survivors) (entry .args .agreeing) (omega arith) (omega arith)))
+    (λ c κs. let entry : tie.Start = search in omega (arith, field-short (entry .args .survivors) (omega arith), field-short (entry .args .agreeing) (omega arith)))
     (λ c. search needs)
     (λ c. unfold ascii in search needs))

@@ -1,8 +1,8 @@
--- The line has at most 30 bytes, for which there is room.
+-- The two fields have at most 11 bytes each, so the line has at most 30.
 -- Assumes nothing.
 use native.Mathlib.Omega.{arith}
 use Rattle.lists.specs.Ascii.{ascii}
-use Rattle.report.proofs.Lines.{refused-short}
+use Rattle.text.proofs.Printing.{field-short}
 use borrow.Author.Needs.{needs}
 use Rattle.report.proofs.put_refused.Statement.{statement}
 use Rattle.report.proofs.put_refused.Tie as tie
@@ -12,6 +12,6 @@ put-refused-spec =
     tie.close
     (tie.spec
     (λ c. search needs)
-    (λ c κs. let entry : tie.Start = search in unfold ascii in omega (arith, refused-short (entry .args .number) (entry .args .survivors) (omega arith) (omega arith)))
+    (λ c κs. let entry : tie.Start = search in omega (arith, field-short (entry .args .number) (omega arith), field-short (entry .args .survivors) (omega arith)))
     (λ c. search needs)
     (λ c. unfold ascii in search needs))

@@ -2,7 +2,7 @@
 -- Assumes nothing.
 use native.Mathlib.Omega.{arith}
 use Rattle.lists.specs.Ascii.{ascii}
-use Rattle.report.proofs.Lines.{word-short}
+use Rattle.text.proofs.Printing.{field-most}
 use borrow.Author.Needs.{needs}
 use Rattle.report.proofs.put_word_line.Statement.{statement}
 use Rattle.report.proofs.put_word_line.Tie as tie
@@ -13,6 +13,6 @@ put-word-line-spec =
     (tie.spec
     (λ c. search needs)
     (λ c. search needs)
-    (λ c κs. let entry : tie.Start = search in unfold ascii in omega (arith, word-short (entry .args .place) (entry .args .word) (omega arith) (omega arith)))
+    (λ c κs. let entry : tie.Start = search in omega (arith, field-most 1 (entry .args .place) (omega arith), field-most 4 (entry .args .word) (omega arith)))
     (λ c. search needs)
     (λ c. unfold ascii in search needs))

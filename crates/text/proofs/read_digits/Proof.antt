@@ -3,7 +3,7 @@
 use Prim.Native.Nat.{_-_}
 use native.Mathlib.Omega.{arith}
 use borrow.Author.Needs.{needs}
-use lib.ListN.{length, getD}
+use lib.ListN.{length}
 use Rattle.lists.proofs.Bools.{fails, passes}
 use Rattle.lists.proofs.Checks.{within-low}
 use Rattle.text.proofs.Numerals.{Valued, valued-none, valued-next, digits-bad, digits-over, digits-done}
