@@ -23,10 +23,11 @@ use Rattle.decoding.proofs.Points.{own-distinct}
 use Rattle.members.proofs.Points.{length-own}
 use Rattle.decoding.proofs.Unique.{agrees, agrees-member}
 use Rattle.dealing.specs.Dealing.{polynomial, dealtShares}
-use Rattle.dealing.proofs.Laws.{InRange}
-use Rattle.reconstruction.specs.Votes.{usable, voteRows}
+use Rattle.dealing.proofs.Laws.{Acceptable}
+use Rattle.voting.specs.Votes.{usable, voteRows}
 use Rattle.reconstruction.specs.Reconstruction.{Opened, isQuorum, required, finish}
-use Rattle.reconstruction.proofs.Meaning.{usable-present, survivor-usable}
+use Rattle.voting.proofs.Meaning.{usable-present}
+use Rattle.reconstruction.proofs.Meaning.{survivor-usable}
 use Rattle.reconstruction.proofs.Opening.{required-least}
 use Rattle.claims.specs.Demands.{AsDealt, altered, Sound, Demand2}
 use Rattle.claims.proofs.Demand3.{kept, kept-agrees, dealt-fits, dealt-zero, sound, in-range, dealt-is, second-half}
@@ -105,7 +106,7 @@ pub demand2 : Demand2
 unfolding Demand2
 demand2 t present quorum secret random dealt words dealing handed as-dealt =
     let d : ℕ = length secret in
-    let r : InRange t secret random (dealing .buffer) = in-range t secret random dealt dealing in
+    let r : Acceptable t secret random (dealing .buffer) = in-range t secret random dealt dealing in
     second-half t secret random dealt dealing present quorum words handed
     ∙ opens-dealt (ownPoints t) (own-distinct t (r .threshold-high)) t (length-own t) secret random (r .secret-words) (r .random-words) present quorum words
     (handed .n-members) (handed .is-quorum) (handed .met)

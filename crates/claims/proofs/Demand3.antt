@@ -28,8 +28,8 @@ use Rattle.decoding.proofs.Points.{own-distinct}
 use Rattle.members.proofs.Points.{length-own}
 use Rattle.decoding.proofs.Unique.{need-most, agrees, card-agreeing}
 use Rattle.dealing.specs.Dealing.{Dealt, polynomial, dealtShares}
-use Rattle.dealing.proofs.Laws.{polynomial-degree, polynomial-zero, word-value, InRange, accepted-in-range, accepted-shares}
-use Rattle.reconstruction.specs.Votes.{usable, voteRows}
+use Rattle.dealing.proofs.Laws.{polynomial-degree, polynomial-zero, word-value, Acceptable, accepted-in-range, accepted-shares}
+use Rattle.voting.specs.Votes.{usable, voteRows}
 use Rattle.reconstruction.specs.Reconstruction.{Opened, required, atZero, finish, reconstruct}
 use Rattle.reconstruction.proofs.Opening.{finish-opens, reconstruct-finishes}
 use Rattle.claims.specs.Demands.{Dealing, HandedIn, AsDealt, altered, Sound, Demand3}
@@ -135,7 +135,7 @@ dealt-anywhere xs t present quorum secret random words points secret-words rando
 
 -- what an accepted dealing says: t and d are in range, and the dealt words are the definition's
 module _ (t : ℕ) (secret random dealt : List ℕ) (dealing : Dealing t secret random dealt) where
-  pub in-range : InRange t secret random (dealing .buffer)
+  pub in-range : Acceptable t secret random (dealing .buffer)
   in-range = accepted-in-range t secret random (dealing .buffer) (ap (λ (a : Dealt). a .number) (dealing .accepted))
 
   pub dealt-is : dealt ≡ dealtShares (ownPoints t) t secret random
@@ -157,7 +157,7 @@ pub demand3 : Demand3
 unfolding Demand3
 demand3 t present quorum secret random dealt words dealing handed honest many as-dealt =
     let d : ℕ = length secret in
-    let r : InRange t secret random (dealing .buffer) = in-range t secret random dealt dealing in
+    let r : Acceptable t secret random (dealing .buffer) = in-range t secret random dealt dealing in
     subst
     (λ (dl : List ℕ). ((i : ℕ) → i < size t → has honest i ≡ true → AsDealt t d present dl words i)
     → Sound (ownPoints t) t d present secret dl words (reconstruct t d present quorum words))

@@ -5,10 +5,12 @@ use Rattle.polynomial.proofs.Examples as Polynomial
 use Rattle.mac.proofs.Examples as Mac
 use Rattle.members.proofs.Examples as Members
 use Rattle.shares.proofs.Examples as Shares
+use Rattle.voting.proofs.Examples as Voting
 use Rattle.pruning.proofs.Examples as Pruning
 use Rattle.decoding.proofs.Examples as Decoding
 use Rattle.dealing.proofs.Examples as Dealing
 use Rattle.reconstruction.proofs.Examples as Reconstruction
+use Rattle.text.proofs.Examples as Text
 use Rattle.handin.proofs.Examples as Handin
 use Rattle.report.proofs.Examples as Report
 use Rattle.claims.specs.Examples.{Examples, Corners}
@@ -40,10 +42,12 @@ corners =
       mac = Mac.examples;
       members = Members.examples;
       shares = Shares.examples;
+      voting = Voting.examples;
       pruning = Pruning.examples;
       decoding = Decoding.examples;
       dealing = Dealing.examples;
       reconstruction = Reconstruction.examples;
+      text = Text.examples;
       handin = Handin.examples;
       report = Report.examples;
     }

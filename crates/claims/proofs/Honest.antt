@@ -23,8 +23,9 @@ use Rattle.pruning.specs.Pruning.{Closed, survivors}
 use Rattle.pruning.proofs.Largest.{survivors-largest}
 use Rattle.dealing.specs.Dealing.{dealtShares}
 use Rattle.dealing.proofs.Laws.{tag-holds, word-field}
-use Rattle.reconstruction.specs.Votes.{usable, accepts, voteRows}
-use Rattle.reconstruction.proofs.Meaning.{usable-intro, rightTag, accepts-intro, votes-are}
+use Rattle.voting.specs.Votes.{usable, accepts, voteRows}
+use Rattle.voting.proofs.Meaning.{usable-intro, rightTag, accepts-intro}
+use Rattle.reconstruction.proofs.Meaning.{votes-are}
 use Rattle.claims.specs.Demands.{AsDealt}
 
 module _ (xs : List ℕ) (t : ℕ) (secret random : List ℕ) (field : Every (λ a. a < prime) random) (present : ℕ) (words : List ℕ) where

@@ -18,7 +18,7 @@ use Rattle.shares.specs.Layout.{width, word, shareWords, tagWord, keyα, keyβ}
 use Rattle.pruning.specs.Pruning.{votes, round, rounds, survivors}
 use Rattle.decoding.specs.Decoding.{surplus, need, agreeing, through, find}
 use Rattle.dealing.specs.Dealing.{randomLength, polynomial, dealtα, dealtβ, dealtWords, dealtTag, dealtShare, dealtShares, deal}
-use Rattle.reconstruction.specs.Votes.{fieldShare, usable, tagHolds, accepts, voteRows}
+use Rattle.voting.specs.Votes.{fieldShare, usable, tagHolds, accepts, voteRows}
 use Rattle.reconstruction.specs.Reconstruction.{unopened, isQuorum, required, atZero, openedFrom, finish, reconstruct}
 use Rattle.claims.specs.Demands.{AsDealt, altered}
 use Rattle.claims.specs.Instances.{Instances}

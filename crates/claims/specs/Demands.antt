@@ -15,7 +15,7 @@ use Rattle.shares.specs.Layout.{width, word}
 use Rattle.pruning.specs.Pruning.{Largest}
 use Rattle.decoding.specs.Decoding.{surplus, agreeing, Fits}
 use Rattle.dealing.specs.Dealing.{deal}
-use Rattle.reconstruction.specs.Votes.{usable, voteRows}
+use Rattle.voting.specs.Votes.{usable, voteRows}
 use Rattle.reconstruction.specs.Reconstruction.{Opened, isQuorum, required, atZero, reconstruct}
 
 -- dealing accepts the secret and the random words, and writes the dealt words

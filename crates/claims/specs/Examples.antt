@@ -7,6 +7,7 @@ use Rattle.mac.specs.Examples.{C3, C4}
 use Rattle.mac.specs.Examples as Mac
 use Rattle.members.specs.Examples as Members
 use Rattle.shares.specs.Examples as Shares
+use Rattle.voting.specs.Examples as Voting
 use Rattle.pruning.specs.Examples.{C6, C7, C8}
 use Rattle.pruning.specs.Examples as Pruning
 use Rattle.decoding.specs.Examples as Decoding
@@ -14,6 +15,7 @@ use Rattle.dealing.specs.Examples.{C5, C10Dealt}
 use Rattle.dealing.specs.Examples as Dealing
 use Rattle.reconstruction.specs.Examples.{C9Opened, C10Opened, C11, C12, C13, C14}
 use Rattle.reconstruction.specs.Examples as Reconstruction
+use Rattle.text.specs.Examples as Text
 use Rattle.handin.specs.Examples.{C9Read, C10Read}
 use Rattle.handin.specs.Examples as Handin
 use Rattle.report.specs.Examples.{C9Printed, C10Printed}
@@ -44,9 +46,11 @@ pub record Corners : Type 0 where
   pub mac : Mac.Examples
   pub members : Members.Examples
   pub shares : Shares.Examples
+  pub voting : Voting.Examples
   pub pruning : Pruning.Examples
   pub decoding : Decoding.Examples
   pub dealing : Dealing.Examples
   pub reconstruction : Reconstruction.Examples
+  pub text : Text.Examples
   pub handin : Handin.Examples
   pub report : Report.Examples

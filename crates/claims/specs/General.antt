@@ -11,7 +11,7 @@ use Rattle.members.specs.Members.{size, has, card}
 use Rattle.shares.specs.Layout.{word}
 use Rattle.decoding.specs.Decoding.{agreeing, Fits, find}
 use Rattle.dealing.specs.Dealing.{dealtShares}
-use Rattle.reconstruction.specs.Votes.{usable, voteRows}
+use Rattle.voting.specs.Votes.{usable, voteRows}
 use Rattle.reconstruction.specs.Reconstruction.{Opened, required, atZero, openedFrom, finish}
 use Rattle.claims.specs.Demands.{AsDealt, Sound}
 

@@ -24,7 +24,7 @@ use Rattle.reconstruction.specs.declared.Outcome as reconstruction-outcome
 use Rattle.reconstruction.specs.declared.Outcome.the-variants as reconstruction-case
 use Rattle.reconstruction.proofs.Numbers.{opened-fits}
 use Rattle.handin.specs.Reader.{read}
-use Rattle.handin.specs.Answers as handin
+use Rattle.handin.specs.Answer as handin
 use Rattle.handin.specs.declared.Outcome as handin-outcome
 use Rattle.handin.specs.declared.Outcome.the-variants as handin-case
 use Rattle.handin.proofs.Sound.{sound}
