@@ -5,7 +5,6 @@ use mathlib.Core.Bool.{Bool, true, false, _&&_, not}
 use mathlib.Core.List.{List}
 use Prim.Native.Nat.{ℕ, suc, _/_, _^_, _≤_, _<_, zero-le}
 use native.Mathlib.Nat.{le-trans, le-of-eq}
-use native.Mathlib.Omega.{arith}
 use lib.Dec.{eqb}
 use lib.ListN.{length}
 use borrow.Author.Tests.{eq-eqb}
@@ -17,7 +16,8 @@ use Rattle.field.specs.Field.{prime}
 use Rattle.polynomial.proofs.Roots.{Distinct}
 use Rattle.members.specs.Members.{size, ownPoints, has, card}
 use Rattle.members.proofs.Masks.{setOf-ext, setOf-has, subsets-equal, card-setOf, card-mono}
-use Rattle.shares.specs.Layout.{width, word}
+use Rattle.shares.proofs.Places.{word-inside}
+use Rattle.shares.specs.Layout.{shareWord}
 use Rattle.decoding.specs.Decoding.{surplus, agreeing}
 use Rattle.decoding.proofs.Points.{own-distinct}
 use Rattle.members.proofs.Points.{length-own}
@@ -34,10 +34,9 @@ use Rattle.claims.proofs.Demand3.{kept, kept-agrees, dealt-fits, dealt-
 
 -- a member whose share is as dealt has its dealt share words
 as-dealt-kept : (t d present : ℕ) (dealt words : List ℕ) (i : ℕ) → AsDealt t d present dealt words i → kept t d dealt words i ≡ true
-unfolding width
 as-dealt-kept t d present dealt words i s =
-    all-intro d (λ k. eqb (word t d words i k) (word t d dealt i k))
-    (λ k h. eq-eqb (word t d words i k) (word t d dealt i k) (s .same k (omega arith)))
+    all-intro d (λ k. eqb (shareWord t d words i k) (shareWord t d dealt i k))
+    (λ k h. eq-eqb (shareWord t d words i k) (shareWord t d dealt i k) (s .same k (word-inside t d k h)))
 
 no-exception : (a b : Bool) → (a ≡ true → b ≡ true) → a && not b ≡ false
 no-exception true b h = ap not (h refl)
@@ -51,7 +50,7 @@ module _ (xs : List ℕ) (distinct : Distinct xs) (t : ℕ) (long : length xs �
   abbrev answer : Opened
   answer =
       finish xs t (length secret) quorum (usable t (length secret) present words)
-      (voteRows t (length secret) (usable t (length secret) present words) words) (word t (length secret) words)
+      (voteRows t (length secret) (usable t (length secret) present words) words) (shareWord t (length secret) words)
 
   many : suc t ≤ card (size t) present
   many =
@@ -80,14 +79,14 @@ module _ (xs : List ℕ) (distinct : Distinct xs) (t : ℕ) (long : length xs �
       ∙ count-none (size t) q (λ i h. no-exception (has (answer .survivors) i) (kept t (length secret) (dealtShares xs t secret random) words i) (survivor-kept i h))
 
   -- all survivors agree with the dealt polynomials
-  all-agree : agreeing xs t (length secret) (word t (length secret) words) (answer .survivors) (polynomial t secret random) ≡ answer .survivors
+  all-agree : agreeing xs t (length secret) (shareWord t (length secret) words) (answer .survivors) (polynomial t secret random) ≡ answer .survivors
   unfolding agreeing
   all-agree =
       let d : ℕ = length secret in
       let f : ℕ → List ℕ = polynomial t secret random in
-      setOf-ext (size t) (agrees xs d (word t d words) (answer .survivors) f) (has (answer .survivors))
-      (λ i h. same-test (agrees xs d (word t d words) (answer .survivors) f i) (has (answer .survivors) i)
-      (agrees-member xs d (word t d words) (answer .survivors) f i)
+      setOf-ext (size t) (agrees xs d (shareWord t d words) (answer .survivors) f) (has (answer .survivors))
+      (λ i h. same-test (agrees xs d (shareWord t d words) (answer .survivors) f i) (has (answer .survivors) i)
+      (agrees-member xs d (shareWord t d words) (answer .survivors) f i)
       (λ e. kept-agrees xs t secret random words (answer .survivors) i h (and-intro e (survivor-kept i h e))))
       ∙ setOf-has (size t) (answer .survivors) (known .largest .below)
 

@@ -20,7 +20,7 @@ use Rattle.polynomial.specs.Polynomial.{value}
 use Rattle.polynomial.proofs.Roots.{Distinct}
 use Rattle.members.specs.Members.{size, ownPoints, has, card}
 use Rattle.members.proofs.Masks.{card-setOf}
-use Rattle.shares.specs.Layout.{word}
+use Rattle.shares.specs.Layout.{shareWord}
 use Rattle.pruning.specs.Pruning.{Largest, survivors}
 use Rattle.pruning.proofs.Largest.{survivors-largest}
 use Rattle.decoding.specs.Decoding.{surplus, Fits}
@@ -47,26 +47,26 @@ dealt-zero t secret random field =
 
 -- member i has its dealt share words
 abbrev pub kept : ℕ → ℕ → List ℕ → List ℕ → ℕ → Bool
-kept t d dealt words i = all d (λ k. eqb (word t d words i k) (word t d dealt i k))
+kept t d dealt words i = all d (λ k. eqb (shareWord t d words i k) (shareWord t d dealt i k))
 
 module _ (xs : List ℕ) (t : ℕ) (secret random words : List ℕ) (set : ℕ) where
   -- a member with its dealt share words agrees with the dealt polynomials
   pub kept-agrees : (i : ℕ) → i < size t → has set i && kept t (length secret) (dealtShares xs t secret random) words i ≡ true
-      → agrees xs (length secret) (word t (length secret) words) set (polynomial t secret random) i ≡ true
+      → agrees xs (length secret) (shareWord t (length secret) words) set (polynomial t secret random) i ≡ true
   kept-agrees i h e =
       let d : ℕ = length secret in
       let dealt : List ℕ = dealtShares xs t secret random in
       and-intro (and-left (has set i) (kept t d dealt words i) e)
-      (all-intro d (λ k. eqb (value (polynomial t secret random k) (getD xs i 0)) (word t d words i k))
-      (λ k l. eq-eqb (value (polynomial t secret random k) (getD xs i 0)) (word t d words i k)
+      (all-intro d (λ k. eqb (value (polynomial t secret random k) (getD xs i 0)) (shareWord t d words i k))
+      (λ k l. eq-eqb (value (polynomial t secret random k) (getD xs i 0)) (shareWord t d words i k)
       (sym (word-value xs t secret random i k h l)
-      ∙ sym (eqb-true (word t d words i k) (word t d dealt i k)
-      (all-elim d (λ j. eqb (word t d words i j) (word t d dealt i j)) (and-right (has set i) (kept t d dealt words i) e) k l)))))
+      ∙ sym (eqb-true (shareWord t d words i k) (shareWord t d dealt i k)
+      (all-elim d (λ j. eqb (shareWord t d words i j) (shareWord t d dealt i j)) (and-right (has set i) (kept t d dealt words i) e) k l)))))
 
   -- the dealt polynomials fit where at most half the surplus have altered share words
   pub dealt-fits : suc t ≤ card (size t) set
       → card (size t) (altered t (length secret) (dealtShares xs t secret random) words set) ≤ surplus t (card (size t) set) / 2
-      → Fits xs t (length secret) (word t (length secret) words) set (polynomial t secret random)
+      → Fits xs t (length secret) (shareWord t (length secret) words) set (polynomial t secret random)
   unfolding altered card
   dealt-fits many few =
       let d : ℕ = length secret in
@@ -79,8 +79,8 @@ module _ (xs : List ℕ) (t : ℕ) (secret random words : List ℕ) (set : ℕ) 
             le-trans
             (need-most t (card (size t) set) (count (size t) p) (count (size t) q) many (count-split (size t) (has set) (kept t d dealt words))
             (le-trans (le-of-eq (sym (card-setOf (size t) q))) few))
-            (le-trans (count-mono (size t) p (agrees xs d (word t d words) set (polynomial t secret random)) (λ i h e. kept-agrees i h e))
-            (le-of-eq (sym (card-agreeing xs t d (word t d words) set (polynomial t secret random)))));
+            (le-trans (count-mono (size t) p (agrees xs d (shareWord t d words) set (polynomial t secret random)) (λ i h e. kept-agrees i h e))
+            (le-of-eq (sym (card-agreeing xs t d (shareWord t d words) set (polynomial t secret random)))));
       }
 
 module _ (xs : List ℕ) (distinct : Distinct xs) (t : ℕ) (long : length xs ≡ size t) (secret random : List ℕ)
@@ -92,21 +92,21 @@ module _ (xs : List ℕ) (distinct : Distinct xs) (t : ℕ) (long : length xs �
   rows = voteRows t (length secret) (usable t (length secret) present words) words
 
   -- what the second half of opening answers, and what is known of it
-  opens : Answers xs t (length secret) (word t (length secret) words) (survivors t rows)
-      (finish xs t (length secret) quorum (usable t (length secret) present words) rows (word t (length secret) words))
+  opens : Answers xs t (length secret) (shareWord t (length secret) words) (survivors t rows)
+      (finish xs t (length secret) quorum (usable t (length secret) present words) rows (shareWord t (length secret) words))
   opens =
-      subst (Answers xs t (length secret) (word t (length secret) words) (survivors t rows))
-      (sym (finish-opens xs t (length secret) quorum (usable t (length secret) present words) rows (word t (length secret) words) met
+      subst (Answers xs t (length secret) (shareWord t (length secret) words) (survivors t rows))
+      (sym (finish-opens xs t (length secret) quorum (usable t (length secret) present words) rows (shareWord t (length secret) words) met
       (some-survive xs t secret random random-words present words honest many as-dealt)))
-      (opened-answers xs distinct t long (length secret) (word t (length secret) words) (survivors t rows))
+      (opened-answers xs distinct t long (length secret) (shareWord t (length secret) words) (survivors t rows))
 
   pub sound : Sound xs t (length secret) present secret (dealtShares xs t secret random) words
-      (finish xs t (length secret) quorum (usable t (length secret) present words) rows (word t (length secret) words))
+      (finish xs t (length secret) quorum (usable t (length secret) present words) rows (shareWord t (length secret) words))
   sound =
       let d : ℕ = length secret in
-      let a : Opened = finish xs t d quorum (usable t d present words) rows (word t d words) in
+      let a : Opened = finish xs t d quorum (usable t d present words) rows (shareWord t d words) in
       let e : a .survivors ≡ survivors t rows = opens .survived in
-      let o : Answers xs t d (word t d words) (a .survivors) a = subst (λ (s : ℕ). Answers xs t d (word t d words) s a) (sym e) opens in
+      let o : Answers xs t d (shareWord t d words) (a .survivors) a = subst (λ (s : ℕ). Answers xs t d (shareWord t d words) s a) (sym e) opens in
       record {
         largest = subst (Largest t rows) (sym e) (survivors-largest t rows);
         holds = λ i h s. ap (λ (m : ℕ). has m i) e ∙ survives xs t secret random random-words present words honest many as-dealt i h s;
@@ -145,7 +145,7 @@ module _ (t : ℕ) (secret random dealt : List ℕ) (dealing : Dealing t secret 
   pub second-half : (present quorum : ℕ) (words : List ℕ) → HandedIn t (length secret) present quorum words
       → reconstruct t (length secret) present quorum words
       ≡ finish (ownPoints t) t (length secret) quorum (usable t (length secret) present words)
-      (voteRows t (length secret) (usable t (length secret) present words) words) (word t (length secret) words)
+      (voteRows t (length secret) (usable t (length secret) present words) words) (shareWord t (length secret) words)
   second-half present quorum words handed =
       reconstruct-finishes t (length secret) present quorum words
       (within-intro 1 15 t (in-range .threshold-low) (in-range .threshold-high))

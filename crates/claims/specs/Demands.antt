@@ -11,7 +11,7 @@ use lib.Dec.{eqb}
 use lib.ListN.{length}
 use Rattle.lists.specs.Tabulate.{all}
 use Rattle.members.specs.Members.{size, ownPoints, has, setOf, card}
-use Rattle.shares.specs.Layout.{width, word}
+use Rattle.shares.specs.Layout.{width, word, shareWord}
 use Rattle.pruning.specs.Pruning.{Largest}
 use Rattle.decoding.specs.Decoding.{surplus, agreeing, Fits}
 use Rattle.dealing.specs.Dealing.{deal}
@@ -38,14 +38,14 @@ pub record AsDealt (t d present : ℕ) (dealt words : List ℕ) (i : ℕ) : Type
 -- the members of a set with altered share words: at least one of the d is not the dealt one
 unfoldable pub altered : ℕ → ℕ → List ℕ → List ℕ → ℕ → ℕ
 altered t d dealt words set =
-    setOf (size t) (λ i. has set i && not (all d (λ k. eqb (word t d words i k) (word t d dealt i k))))
+    setOf (size t) (λ i. has set i && not (all d (λ k. eqb (shareWord t d words i k) (shareWord t d dealt i k))))
 
 -- polynomials of degree at most t that enough members of a set agree with, by their share words; and the members that agree
 abbrev pub Fitting : List ℕ → ℕ → ℕ → List ℕ → ℕ → (ℕ → List ℕ) → Type 0
-Fitting xs t d words set f = Fits xs t d (word t d words) set f
+Fitting xs t d words set f = Fits xs t d (shareWord t d words) set f
 
 abbrev pub agreed : List ℕ → ℕ → ℕ → List ℕ → ℕ → (ℕ → List ℕ) → ℕ
-agreed xs t d words set f = agreeing xs t d (word t d words) set f
+agreed xs t d words set f = agreeing xs t d (shareWord t d words) set f
 
 -- what demand 3 says of the answer of opening, where the members have the points xs
 pub record Sound (xs : List ℕ) (t d present : ℕ) (secret dealt words : List ℕ) (answer : Opened) : Type 0 where

@@ -8,7 +8,7 @@ use lib.ListN.{length, getD}
 use Rattle.lists.specs.Tabulate.{each}
 use Rattle.field.specs.Field.{prime, isFieldWord}
 use Rattle.members.specs.Members.{size, has, card}
-use Rattle.shares.specs.Layout.{word}
+use Rattle.shares.specs.Layout.{shareWord}
 use Rattle.decoding.specs.Decoding.{agreeing, Fits, find}
 use Rattle.dealing.specs.Dealing.{dealtShares}
 use Rattle.voting.specs.Votes.{usable, voteRows}
@@ -46,4 +46,4 @@ DealtAnywhere =
     → ((i : ℕ) → i < size t → has honest i ≡ true → AsDealt t (length secret) present (dealtShares xs t secret random) words i)
     → let d : ℕ = length secret in
     let able : ℕ = usable t d present words in
-    Sound xs t d present secret (dealtShares xs t secret random) words (finish xs t d quorum able (voteRows t d able words) (word t d words))
+    Sound xs t d present secret (dealtShares xs t secret random) words (finish xs t d quorum able (voteRows t d able words) (shareWord t d words))
