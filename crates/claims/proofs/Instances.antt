@@ -14,7 +14,7 @@ use Rattle.field.specs.Field.{difference, product, power, inverse}
 use Rattle.polynomial.specs.Polynomial.{eval, value, linear, slopes, interpolate}
 use Rattle.mac.specs.Tag.{tag}
 use Rattle.members.specs.Members.{size, ownPoints, bit, has, setOf, card, membersOf}
-use Rattle.shares.specs.Layout.{width, word, shareWords, tagWord, keyα, keyβ}
+use Rattle.shares.specs.Layout.{width, assembled, word, shareWords, tagWord, keyα, keyβ}
 use Rattle.pruning.specs.Pruning.{votes, round, rounds, survivors}
 use Rattle.decoding.specs.Decoding.{surplus, need, agreeing, through, find}
 use Rattle.dealing.specs.Dealing.{randomLength, polynomial, dealtα, dealtβ, dealtWords, dealtTag, dealtShare, dealtShares, deal}
@@ -43,7 +43,7 @@ as-tested t d present honest dealt words h i l e =
 pub instances : Instances
 unfolding tab all count keep each first concat choose difference product power inverse eval value linear slopes interpolate size ownPoints bit has
     setOf card membersOf surplus need agreeing through find tag width word shareWords tagWord keyα keyβ votes round rounds survivors fieldShare usable
-    tagHolds accepts voteRows unopened isQuorum required atZero openedFrom finish reconstruct randomLength polynomial dealtα dealtβ dealtWords
+    tagHolds accepts voteRows unopened isQuorum required atZero openedFrom finish reconstruct randomLength polynomial dealtα dealtβ dealtWords assembled
     dealtTag dealtShare dealtShares deal altered
 instances =
     record {

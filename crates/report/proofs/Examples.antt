@@ -10,7 +10,7 @@ use Rattle.members.specs.Members.{size, ownPoints, bit, has, setOf, card, membe
 use Rattle.shares.specs.Layout.{width, word, shareWords, tagWord, keyα, keyβ}
 use Rattle.pruning.specs.Pruning.{votes, round, rounds, survivors}
 use Rattle.decoding.specs.Decoding.{surplus, need, agreeing, through, find}
-use Rattle.reconstruction.specs.Votes.{fieldShare, usable, tagHolds, accepts, voteRows}
+use Rattle.voting.specs.Votes.{fieldShare, usable, tagHolds, accepts, voteRows}
 use Rattle.reconstruction.specs.Reconstruction.{unopened, isQuorum, required, atZero, openedFrom, finish, reconstruct}
 use Rattle.text.specs.Lines.{digits, field, line, before, parts, decimal, leadsWithZero, isNumeral, numerals, isLetter, numbersOf, lineOf}
 use Rattle.handin.specs.Reader.{shareOf, isSome, wordsOr, takeShare, takeNumbers, takeLine, takeLines, unread, placed, readFrom, readNumbers, readLines, read}
