@@ -1,4 +1,4 @@
--- `lists::fill` meets its contract. The loop's invariant: the first i places have the word.
+-- `lists::fill`: after i turns the first i places have the word.
 -- Assumes nothing.
 use mathlib.Core.Path.{_≡_, refl, sym, ap, _∙_}
 use mathlib.Core.List.{List, [], _∷_, _++_}

@@ -1,4 +1,4 @@
--- `mac::tag` meets its contract.
+-- `mac::tag`: α times the words' value at α, and β, is the definition's sum.
 -- Assumes nothing.
 use borrow.Author.Needs.{needs}
 use Rattle.mac.proofs.Tags.{tag-from}

@@ -1,4 +1,4 @@
--- `members::card` meets its contract.
+-- `members::card`: the word's one bits are the members of the set.
 -- Assumes nothing.
 use Rattle.members.proofs.Masks.{ones-card}
 use Rattle.members.proofs.card.Statement.{statement}

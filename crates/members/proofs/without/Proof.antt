@@ -1,4 +1,4 @@
--- `members::without` meets its contract: a member of the set is one of the 32.
+-- `members::without`: where the member is in the set, which is below 32, the exclusive or clears its bit; else the set stays.
 -- Assumes nothing.
 use mathlib.Core.Path.{ap, sym, _∙_}
 use Prim.Native.Nat.{ℕ}

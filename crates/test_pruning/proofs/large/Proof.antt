@@ -1,4 +1,4 @@
--- `test_pruning::large` is safe and ends.
+-- `test_pruning::large` is safe and ends: k goes up to 300.
 -- Assumes nothing.
 use Prim.Native.Nat.{_≤_, _-_}
 use native.Mathlib.Omega.{arith}
@@ -12,41 +12,17 @@ Inv-loop t₀ rows₀ word₀ k₀ t rows word k = k ≤ 300
 abbrev μ-loop : tie.MeasureT-loop
 μ-loop t₀ rows₀ word₀ k₀ t rows word k = 300 - k
 
-loop-holds : tie.Need-loop-holds Inv-loop μ-loop
-loop-holds c = omega arith
-
-fill-requires : tie.Need-fill-requires Inv-loop μ-loop
-fill-requires c κs = search needs
-
-both31-requires : tie.Need-both31-requires Inv-loop μ-loop
-both31-requires c κs = search needs
-
-more-requires : tie.Need-more-requires Inv-loop μ-loop
-more-requires c κs = search needs
-
-add-k : tie.Need-add-k Inv-loop μ-loop
-add-k c = omega arith
-
-loop-less : tie.Need-loop-less Inv-loop μ-loop
-loop-less c = omega arith
-
-loop-again : tie.Need-loop-again Inv-loop μ-loop
-loop-again c = omega arith
-
-returns : tie.Need-returns Inv-loop μ-loop
-returns c = omega arith
-
 pub large-spec : {M : Type 1} → statement M
 large-spec =
     tie.close
     (tie.spec
     Inv-loop
     μ-loop
-    loop-holds
-    fill-requires
-    both31-requires
-    more-requires
-    add-k
-    loop-less
-    loop-again
-    returns)
+    (λ c. omega arith)
+    (λ c κs. search needs)
+    (λ c κs. search needs)
+    (λ c κs. search needs)
+    (λ c. omega arith)
+    (λ c. omega arith)
+    (λ c. omega arith)
+    (λ c. omega arith))
