@@ -7,6 +7,7 @@ use mathlib.Core.List.{List, [], _∷_, map}
 use Prim.Native.Nat.{ℕ, zero, suc, _+_, _≤_, _<_, zero-le, suc-le-suc}
 use native.Mathlib.Nat.{not-suc-le-zero, le-of-suc-le-suc}
 use native.Mathlib.Numerals.{add-one}
+use native.Mathlib.Omega.{arith}
 use lib.ListN.{length, getD, drop, drop-of-length-le}
 use lib.Seq.{drop-cons}
 use Rattle.lists.specs.Tabulate.{tab, all, each}
@@ -83,6 +84,27 @@ each-drop p l i d h = ap (each p) (drop-cons l i d h) ∙ ap (λ (k : ℕ). p (g
 pub each-end : {A : Type 0} (p : A → Bool) (l : List A) (i : ℕ) → length l ≤ i → each p (drop i l) ≡ true
 unfolding each
 each-end p l i h = ap (each p) (drop-of-length-le l h)
+
+-- a loop that tests a list's elements: the test of what is left is the test of the whole
+pub record Tested {A : Type 0} (p : A → Bool) (l : List A) (i : ℕ) : Type 0 where
+  pub inside : i ≤ length l
+  pub so-far : each p (drop i l) ≡ each p l
+
+pub tested-first : {A : Type 0} (p : A → Bool) (l : List A) → Tested p l 0
+tested-first p l = record { inside = zero-le; so-far = refl }
+
+module _ {A : Type 0} (p : A → Bool) (l : List A) (i : ℕ) (t : Tested p l i) where
+  tested : (d : A) (b : Bool) → i < length l → p (getD l i d) ≡ b → b && each p (drop (i + 1) l) ≡ each p l
+  tested d b h e = sym (each-drop p l i d h ∙ ap (λ (b : Bool). b && each p (drop (i + 1) l)) e) ∙ t .so-far
+
+  pub tested-next : (d : A) → i < length l → p (getD l i d) ≡ true → Tested p l (i + 1)
+  tested-next d h e = record { inside = omega arith; so-far = tested d true h e }
+
+  pub tested-fails : (d : A) → i < length l → p (getD l i d) ≡ false → false ≡ each p l
+  tested-fails d h e = tested d false h e
+
+  pub tested-last : length l ≤ i → true ≡ each p l
+  tested-last h = sym (each-end p l i h) ∙ t .so-far
 
 pub each-tab : {A : Type 0} (p : A → Bool) (n : ℕ) (f : ℕ → A) → each p (tab n f) ≡ all n (λ i. p (f i))
 unfolding each tab all

@@ -8,10 +8,10 @@ use native.Mathlib.Nat.{le-trans, le-suc, not-suc-le-zero}
 use native.Mathlib.Omega.{arith}
 use native.Mathlib.Numerals.{add-one}
 use lib.Dec.{leb}
-use lib.ListN.{length, getD, drop}
+use lib.ListN.{length, getD}
 use borrow.Author.Tests.{le-leb, lt-leb}
 use Rattle.lists.specs.Tabulate.{each}
-use Rattle.lists.proofs.Tabulate.{each-drop}
+use Rattle.lists.proofs.Tabulate.{Tested, tested-next, tested-fails}
 use Rattle.members.specs.Members.{size, has, setOf, isSet, adding, firstOf, common}
 use Rattle.members.proofs.Masks.{setOf-lt}
 use Rattle.members.proofs.Words.{firstOf-all, firstOf-isSet, setOf-with, setOf-without, common-count}
@@ -20,23 +20,15 @@ use Rattle.pruning.proofs.Largest.{rounds-fixed, round-lt}
 
 -- ---- rows that are sets
 
--- what is left to test after i rows
-abbrev pub Tested : ℕ → List ℕ → ℕ → Type 0
-Tested n rows i = each (isSet n) rows ≡ each (isSet n) (drop i rows)
-
-module _ (n members : ℕ) (rows : List ℕ) (i : ℕ) (few : n ≤ 32) (all : members ≡ firstOf n) (within : i < length rows) (tested : Tested n rows i) where
+module _ (n members : ℕ) (rows : List ℕ) (i : ℕ) (few : n ≤ 32) (all : members ≡ firstOf n) (within : i < length rows) (so-far : Tested (isSet n) rows i) where
   row-test : (b : Bool) → leb (getD rows i 0) members ≡ b → isSet n (getD rows i 0) ≡ b
   row-test b e = sym (firstOf-isSet n (getD rows i 0) few) ∙ ap (leb (getD rows i 0)) (sym all) ∙ e
 
   pub row-beyond : members < getD rows i 0 → false ≡ each (isSet n) rows
-  row-beyond h =
-      sym (tested ∙ each-drop (isSet n) rows i 0 within
-      ∙ ap (λ (b : Bool). b && each (isSet n) (drop (i + 1) rows)) (row-test false (lt-leb (getD rows i 0) members h)))
+  row-beyond h = tested-fails (isSet n) rows i so-far 0 within (row-test false (lt-leb (getD rows i 0) members h))
 
-  pub row-within : getD rows i 0 ≤ members → Tested n rows (i + 1)
-  row-within h =
-      tested ∙ each-drop (isSet n) rows i 0 within
-      ∙ ap (λ (b : Bool). b && each (isSet n) (drop (i + 1) rows)) (row-test true (le-leb (getD rows i 0) members h))
+  pub row-within : getD rows i 0 ≤ members → Tested (isSet n) rows (i + 1)
+  row-within h = tested-next (isSet n) rows i so-far 0 within (row-test true (le-leb (getD rows i 0) members h))
 
 -- ---- one round
 

@@ -1,4 +1,4 @@
--- `lists::fill`: after i turns the first i places have the word, and at the end all have.
+-- `lists::fill`: after i turns the first i places have the word.
 -- Assumes nothing.
 use mathlib.Core.Path.{_≡_, refl, sym, ap, _∙_}
 use mathlib.Core.List.{List, [], _∷_, _++_}

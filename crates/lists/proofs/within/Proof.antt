@@ -1,4 +1,4 @@
--- `lists::within`: the two tests are those of the definition.
+-- `lists::within`: the code's two tests are the definition's.
 -- Assumes nothing.
 use borrow.Author.Tests.{le-leb, lt-leb}
 use Rattle.lists.proofs.within.Statement.{statement}

@@ -1,4 +1,4 @@
--- `mac::tag`: the tag is β plus α times the words' polynomial at α.
+-- `mac::tag`: α times the words' value at α, and β, is the definition's sum.
 -- Assumes nothing.
 use borrow.Author.Needs.{needs}
 use Rattle.mac.proofs.Tags.{tag-from}

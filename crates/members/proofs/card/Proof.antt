@@ -1,4 +1,4 @@
--- `members::card`: the count of ones is the count of members.
+-- `members::card`: the word's one bits are the members of the set.
 -- Assumes nothing.
 use Rattle.members.proofs.Masks.{ones-card}
 use Rattle.members.proofs.card.Statement.{statement}

@@ -1,4 +1,4 @@
--- `members::common`: the ones of both masks are the members of both sets.
+-- `members::common`: a bit of the conjunction is 1 where both sets have the member.
 -- Assumes nothing.
 use Rattle.members.proofs.Words.{common-ones}
 use Rattle.members.proofs.common.Statement.{statement}

@@ -1,4 +1,4 @@
--- `members::first`: all bits below n together are 2 to the power n, less 1.
+-- `members::first`: all bits below n make 2 ^ n − 1, and from 32 on the whole mask.
 -- Assumes nothing.
 use native.Mathlib.Omega.{arith}
 use borrow.Author.Needs.{needs}

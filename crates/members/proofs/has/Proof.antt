@@ -1,4 +1,4 @@
--- `members::has`: the shift brings bit i to the front, and a mask has no member beyond the 32.
+-- `members::has`: the bit shifted to place 0 is the member's, and a mask has no member beyond the 32.
 -- Assumes nothing.
 use mathlib.Core.Path.{sym}
 use borrow.Author.Needs.{needs}

@@ -1,4 +1,4 @@
--- `members::only`: a shift of 1 by i is 2 to the power i.
+-- `members::only`: 1 shifted by i is 2 ^ i, which fits below 32.
 -- Assumes nothing.
 use borrow.Author.Needs.{needs}
 use lib.Pow.{shl-exact}

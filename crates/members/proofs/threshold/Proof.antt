@@ -1,4 +1,4 @@
--- `members::threshold`: the two tests are those of the definition.
+-- `members::threshold`: the code's two tests are the definition's.
 -- Assumes nothing.
 use borrow.Author.Tests.{le-leb, lt-leb}
 use Rattle.members.proofs.threshold.Statement.{statement}

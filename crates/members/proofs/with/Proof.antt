@@ -1,4 +1,4 @@
--- `members::with`: an OR with bit i adds member i, and one beyond the 32 changes nothing.
+-- `members::with`: the disjunction sets the member's bit, and a member beyond the 32 has none.
 -- Assumes nothing.
 use mathlib.Core.Path.{ap, _∙_}
 use Prim.Native.Nat.{ℕ}

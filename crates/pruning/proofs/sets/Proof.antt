@@ -1,17 +1,17 @@
 -- `pruning::sets`: a row is a set of n members where it is at most the set of all; the first that is none decides, and the invariant is that what is left to test decides.
 -- Assumes nothing.
-use mathlib.Core.Path.{refl}
-use Prim.Native.Nat.{_≤_, _-_}
+use Prim.Native.Nat.{_-_}
 use native.Mathlib.Omega.{arith}
 use borrow.Author.Needs.{needs}
 use lib.ListN.{length}
-use Rattle.lists.proofs.Tabulate.{each-end}
-use Rattle.pruning.proofs.Steps.{Tested, row-beyond, row-within}
+use Rattle.lists.proofs.Tabulate.{Tested, tested-first, tested-last}
+use Rattle.members.specs.Members.{isSet}
+use Rattle.pruning.proofs.Steps.{row-beyond, row-within}
 use Rattle.pruning.proofs.sets.Statement.{statement}
 use Rattle.pruning.proofs.sets.Tie as tie
 
 abbrev Inv-loop : tie.InvT-loop
-Inv-loop n rows all k₀ k = (k ≤ length rows) × Tested n rows k
+Inv-loop n rows all k₀ k = Tested (isSet n) rows k
 
 abbrev μ-loop : tie.MeasureT-loop
 μ-loop n rows all k₀ k = length rows - k
@@ -23,11 +23,11 @@ sets-spec =
     Inv-loop
     μ-loop
     (λ c κs. search needs)
-    (λ c. (omega arith, refl))
+    (λ c. tested-first _ _)
     (λ c. omega arith)
     (λ c. omega arith)
     (λ c. search row-beyond)
     (λ c. omega arith)
     (λ c. omega arith)
-    (λ c. (omega arith, search row-within))
-    (λ c. let at-loop : tie.At-loop Inv-loop μ-loop = search in search (each-end, at-loop .loop .inv .1, c .loop-test .left)))
+    (λ c. search row-within)
+    (λ c. search tested-last))

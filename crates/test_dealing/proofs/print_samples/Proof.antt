@@ -1,4 +1,4 @@
--- `test_dealing::print_samples` is safe and ends.
+-- `test_dealing::print_samples` is safe and ends: i goes up by 101 and stops at the length, so it stays small.
 -- Assumes nothing.
 use Prim.Native.Nat.{_+_, _-_, _≤_}
 use borrow.Author.Needs.{needs}

@@ -1,4 +1,4 @@
--- `test_dealing::print_words` is safe and ends.
+-- `test_dealing::print_words` is safe and ends: i goes up to the length.
 -- Assumes nothing.
 use Prim.Native.Nat.{_-_, _≤_}
 use borrow.Author.Needs.{needs}

@@ -1,4 +1,4 @@
--- `test_field::far_pairs` is safe and ends.
+-- `test_field::far_pairs` is safe and ends: what is left goes down.
 -- Assumes nothing.
 use native.Mathlib.Omega.{arith}
 use Rattle.test_field.proofs.far_pairs.Statement.{statement}

@@ -1,4 +1,4 @@
--- `test_field::near_pairs` is safe and ends.
+-- `test_field::near_pairs` is safe and ends: what is left goes down from 63.
 -- Assumes nothing.
 use Prim.Native.Nat.{_≤_}
 use native.Mathlib.Omega.{arith}

@@ -1,4 +1,4 @@
--- `test_field::show` is safe and ends.
+-- `test_field::show` is safe and ends: i goes up to the length.
 -- Assumes nothing.
 use Prim.Native.Nat.{_≤_, _-_}
 use native.Mathlib.Omega.{arith}

@@ -1,4 +1,4 @@
--- `test_pruning::fill` is safe and ends.
+-- `test_pruning::fill` is safe and ends: i goes up to 31, which the array has.
 -- Assumes nothing.
 use Prim.Native.Nat.{_≤_, _-_}
 use native.Mathlib.Omega.{arith}

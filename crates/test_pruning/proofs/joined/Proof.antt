@@ -1,4 +1,4 @@
--- `test_pruning::joined` is safe and ends.
+-- `test_pruning::joined` is safe and ends: the set goes up to 8.
 -- Assumes nothing.
 use Prim.Native.Nat.{_≤_, _-_}
 use native.Mathlib.Omega.{arith}

@@ -1,4 +1,4 @@
--- `test_pruning::large` is safe and ends.
+-- `test_pruning::large` is safe and ends: k goes up to 300.
 -- Assumes nothing.
 use Prim.Native.Nat.{_≤_, _-_}
 use native.Mathlib.Omega.{arith}

@@ -1,4 +1,4 @@
--- `test_pruning::last_weak` is safe and ends.
+-- `test_pruning::last_weak` is safe and ends: i goes down from 31.
 -- Assumes nothing.
 use Prim.Native.Nat.{_≤_}
 use native.Mathlib.Omega.{arith}

@@ -1,4 +1,4 @@
--- `test_pruning::small` is safe and ends.
+-- `test_pruning::small` is safe and ends: k goes up to 512.
 -- Assumes nothing.
 use Prim.Native.Nat.{_≤_, _-_}
 use native.Mathlib.Omega.{arith}

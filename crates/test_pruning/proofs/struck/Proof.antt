@@ -1,4 +1,4 @@
--- `test_pruning::struck` is safe and ends.
+-- `test_pruning::struck` is safe and ends: the turns go down from 31.
 -- Assumes nothing.
 use Prim.Native.Nat.{_≤_}
 use native.Mathlib.Omega.{arith}
