@@ -53,6 +53,7 @@ mix-spec =
     Inv-loop
     μ-loop
     (λ c. search needs)
+    -- f[j] = field::add_product(field::multiply(u, f[j]), v, g[j]);
     (λ c. omega arith)
     (λ c. omega arith)
     (λ c κs. search needs)
@@ -61,6 +62,7 @@ mix-spec =
     (λ c κs. search needs)
     (λ c. omega arith)
     (λ c. omega arith)
+    -- j = j + 1;
     (λ c. omega arith)
     (λ c. simp length-set (omega arith))
     (λ c. search next)

@@ -21,7 +21,9 @@ pass-spec =
     (tie.spec
     Inv-loop
     μ-loop
+    -- p[0] = 1;
     (λ c. search room-0)
+    -- q[32] = 1;
     (λ c. search room-32)
     (λ c. search first)
     -- at = pass_member(t, points[i], values[i], members::has(set, i), p, q, at);

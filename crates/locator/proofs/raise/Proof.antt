@@ -52,11 +52,14 @@ raise-spec =
     μ-loop
     (λ c κs. search needs)
     (λ c. search needs)
+    -- let old = f[j];
     (λ c. omega arith)
     (λ c. omega arith)
+    -- f[j] = field::add_product(carry, minus, old);
     (λ c κs. search needs)
     (λ c. omega arith)
     (λ c. omega arith)
+    -- j = j + 1;
     (λ c. omega arith)
     (λ c. simp length-set (omega arith))
     (λ c. search next)
