@@ -16,7 +16,7 @@ use Rattle.lists.proofs.Tabulate.{length-tab}
 use Rattle.members.specs.Members.{isThreshold, size, ownPoints, has, setOf, isSet, card}
 use Rattle.members.proofs.Masks.{setOf-lt, has-zero}
 use Rattle.members.proofs.Words.{card-32}
-use Rattle.shares.specs.Layout.{width, shareWord}
+use Rattle.shares.specs.Layout.{shareWord}
 use Rattle.shares.specs.Internal.Shape.{Room}
 use Rattle.shares.specs.declared.Shape.{Shape}
 use Rattle.voting.specs.Votes.{fieldShare, usable, accepts, voteRows}
@@ -45,10 +45,10 @@ module _ (t : ℕ) (rows : List ℕ) (h : isThreshold t ≡ true) (long : length
   survivors-none k = given (Refused k)
 
 -- the votes of shares: nobody accepts a member that is not usable
-pub votes-voted : (s : Shape) (words : List ℕ) (able present : ℕ) → able ≡ usable (s .t) (s .d) present words
+pub votes-voted : (s : Shape) (words : List ℕ) → Room s words → (able present : ℕ) → able ≡ usable (s .t) (s .d) present words
     → (rows : List ℕ) → rows ≡ voteRows (s .t) (s .d) able words → Voted s able rows words
-unfolding usable voteRows width
-votes-voted s words able present ea rows er =
+unfolding usable voteRows
+votes-voted s words room able present ea rows er =
     let (t, d) : ℕ × ℕ = (s .t, s .d) in
     let row : ℕ → ℕ = λ i. setOf (size t) (λ j. accepts t d able words j i) in
     record {
@@ -59,7 +59,7 @@ votes-voted s words able present ea rows er =
           ∙ every-each (isSet (size t)) (every-tab (size t) row (λ i l. lt-ltb (row i) (2 ^ size t) (setOf-lt (size t) (λ j. accepts t d able words j i))));
       field = λ i l some k m.
           elim (test (has able i)) [
-            | inl e ↦ usable-words t d present words i l (subst (λ (a : ℕ). has a i ≡ true) ea e) k (omega arith)
+            | inl e ↦ usable-words t d present words i l (subst (λ (a : ℕ). has a i ≡ true) ea e) k (omega (arith, room .station .share, room .station .parts))
             | inr e ↦ absurd (some (ap (λ (r : List ℕ). getD r i 0) er ∙ row-is t d able words i l ∙ empty-row t d able words i e))
           ];
     }
