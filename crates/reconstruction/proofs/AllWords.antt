@@ -35,7 +35,7 @@ use Rattle.decoding.proofs.Points.{own-distinct}
 use Rattle.decoding.proofs.Unique.{agreeing-same}
 use Rattle.decoding.proofs.Words.{wordAt, no-word, by-words}
 use Rattle.reconstruction.specs.Reconstruction.{Opened, unopened, atZero, openedFrom}
-use Rattle.reconstruction.specs.Internal.Steps.{Decodable}
+use Rattle.reconstruction.specs.Internal.Steps.{Decodable, byWords}
 use Rattle.reconstruction.proofs.ByWord.{Turned, word-refused}
 
 -- enough of a set are not more than all
@@ -169,7 +169,7 @@ module _ {shape : Shape} {words : List ℕ} (room : Room shape words) {s : ℕ} 
   Opening = Going (ownPoints t) t d y s
 
   abbrev answered : Opened
-  answered = openedFrom (ownPoints t) t d y s (find (ownPoints t) t d y s)
+  answered = byWords shape words s
 
   -- as many points as members
   pub own-length : {points : List ℕ} → points ≡ ownPoints t → length points ≡ shape .n

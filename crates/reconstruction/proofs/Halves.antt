@@ -16,7 +16,7 @@ use Rattle.lists.proofs.Tabulate.{length-tab}
 use Rattle.members.specs.Members.{isThreshold, size, ownPoints, has, setOf, isSet, card}
 use Rattle.members.proofs.Masks.{setOf-lt, has-zero}
 use Rattle.members.proofs.Words.{card-32}
-use Rattle.shares.specs.Layout.{width, shareWord}
+use Rattle.shares.specs.Layout.{shareWord}
 use Rattle.shares.specs.Internal.Shape.{Room}
 use Rattle.shares.specs.declared.Shape.{Shape}
 use Rattle.voting.specs.Votes.{fieldShare, usable, accepts, voteRows}
@@ -28,9 +28,8 @@ use Rattle.pruning.specs.Answer.{answerOf}
 use Rattle.pruning.specs.Pruning.{Pruned, votes, survivors, prune}
 use Rattle.pruning.proofs.Answers.{accepts as accepted}
 use Rattle.pruning.proofs.Largest.{survivors-largest, survivors-size}
-use Rattle.decoding.specs.Decoding.{find}
-use Rattle.reconstruction.specs.Reconstruction.{Opened, unopened, required, openedFrom, finish}
-use Rattle.reconstruction.specs.Internal.Steps.{Voted, Decodable}
+use Rattle.reconstruction.specs.Reconstruction.{Opened, unopened, required, finish}
+use Rattle.reconstruction.specs.Internal.Steps.{Voted, Decodable, byWords, byVotes, byShares}
 use Rattle.reconstruction.proofs.Opening.{finish-opens}
 
 -- what pruning's answer gives is the survivors
@@ -46,10 +45,10 @@ module _ (t : ℕ) (rows : List ℕ) (h : isThreshold t ≡ true) (long : length
   survivors-none k = given (Refused k)
 
 -- the votes of shares: nobody accepts a member that is not usable
-pub votes-voted : (s : Shape) (words : List ℕ) (able present : ℕ) → able ≡ usable (s .t) (s .d) present words
+pub votes-voted : (s : Shape) (words : List ℕ) → Room s words → (able present : ℕ) → able ≡ usable (s .t) (s .d) present words
     → (rows : List ℕ) → rows ≡ voteRows (s .t) (s .d) able words → Voted s able rows words
-unfolding usable voteRows width
-votes-voted s words able present ea rows er =
+unfolding usable voteRows
+votes-voted s words room able present ea rows er =
     let (t, d) : ℕ × ℕ = (s .t, s .d) in
     let row : ℕ → ℕ = λ i. setOf (size t) (λ j. accepts t d able words j i) in
     record {
@@ -60,7 +59,7 @@ votes-voted s words able present ea rows er =
           ∙ every-each (isSet (size t)) (every-tab (size t) row (λ i l. lt-ltb (row i) (2 ^ size t) (setOf-lt (size t) (λ j. accepts t d able words j i))));
       field = λ i l some k m.
           elim (test (has able i)) [
-            | inl e ↦ usable-words t d present words i l (subst (λ (a : ℕ). has a i ≡ true) ea e) k (omega arith)
+            | inl e ↦ usable-words t d present words i l (subst (λ (a : ℕ). has a i ≡ true) ea e) k (omega (arith, room .station .share, room .station .parts))
             | inr e ↦ absurd (some (ap (λ (r : List ℕ). getD r i 0) er ∙ row-is t d able words i l ∙ empty-row t d able words i e))
           ];
     }
@@ -68,9 +67,6 @@ votes-voted s words able present ea rows er =
 module _ (s : Shape) (words : List ℕ) (room : Room s words) (able : ℕ) (rows : List ℕ) (voted : Voted s able rows words) where
   abbrev t : ℕ
   t = s .t
-
-  abbrev y : ℕ → ℕ → ℕ
-  y = shareWord t (s .d) words
 
   -- a survivor has a vote
   voted-for : (i : ℕ) → i < size t → has (survivors t rows) i ≡ true → getD rows i 0 ≡ 0 → ⊥
@@ -94,7 +90,7 @@ module _ (s : Shape) (words : List ℕ) (room : Room s words) (able : ℕ) (rows
   -- the code's counts of usable members and of those that the quorum asks for
   module _ (quorum c q : ℕ) (ec : c ≡ card 32 able) (eq : q ≡ required t quorum) where
     abbrev finished : Opened
-    finished = finish (ownPoints t) t (s .d) quorum able rows y
+    finished = byVotes s quorum able rows words
 
     counted : c ≡ card (size t) able
     counted = ec ∙ card-32 t able (room .station .range .t-high) (voted .below)
@@ -115,21 +111,17 @@ module _ (s : Shape) (words : List ℕ) (room : Room s words) (able : ℕ) (rows
           ∙ ap (λ (m : ℕ). unopened m 0 15) el
           ∙ sym (rw (le-leb (required t quorum) (card (size t) able) met, eq-eqb (survivors t rows) 0 (sym ev ∙ z)))
 
-      pub finish-words : (v ≡ 0 → ⊥) → (answer : Opened) → answer ≡ openedFrom (ownPoints t) t (s .d) y v (find (ownPoints t) t (s .d) y v) → answer ≡ finished
+      pub finish-words : (v ≡ 0 → ⊥) → (answer : Opened) → answer ≡ byWords s words v → answer ≡ finished
       finish-words some-left answer e =
           e
-          ∙ ap (λ (m : ℕ). openedFrom (ownPoints t) t (s .d) y m (find (ownPoints t) t (s .d) y m)) ev
-          ∙ sym (finish-opens (ownPoints t) t (s .d) quorum able rows y met (λ z. some-left (ev ∙ z)))
+          ∙ ap (byWords s words) ev
+          ∙ sym (finish-opens (ownPoints t) t (s .d) quorum able rows (shareWord t (s .d) words) met (λ z. some-left (ev ∙ z)))
 
 -- the votes of shares, with the usable members that the code has found
 pub by-votes : (s : Shape) (words : List ℕ) (quorum present able : ℕ) → able ≡ usable (s .t) (s .d) present words
     → (rows : List ℕ) → rows ≡ voteRows (s .t) (s .d) able words
-    → (answer : Opened) → answer ≡ finish (ownPoints (s .t)) (s .t) (s .d) quorum able rows (shareWord (s .t) (s .d) words)
-    → answer
-    ≡ finish (ownPoints (s .t)) (s .t) (s .d) quorum (usable (s .t) (s .d) present words) (voteRows (s .t) (s .d) (usable (s .t) (s .d) present words) words)
-    (shareWord (s .t) (s .d) words)
+    → (answer : Opened) → answer ≡ byVotes s quorum able rows words → answer ≡ byShares s present quorum words
 by-votes s words quorum present able ea rows er answer e =
-    let (t, d) : ℕ × ℕ = (s .t, s .d) in
     e
-    ∙ ap (λ (r : List ℕ). finish (ownPoints t) t d quorum able r (shareWord t d words)) er
-    ∙ ap (λ (a : ℕ). finish (ownPoints t) t d quorum a (voteRows t d a words) (shareWord t d words)) ea
+    ∙ ap (λ (r : List ℕ). byVotes s quorum able r words) er
+    ∙ ap (λ (a : ℕ). byVotes s quorum a (voteRows (s .t) (s .d) a words) words) ea

@@ -10,14 +10,14 @@ use lib.ListN.{length}
 use borrow.Author.Tests.{eq-eqb, ne-eqb, le-leb, lt-leb, ltb-true}
 use Rattle.lists.specs.Checks.{within}
 use Rattle.lists.proofs.Bools.{fails, passes}
-use Rattle.members.specs.Members.{isThreshold, size, ownPoints, isSet, firstOf}
+use Rattle.members.specs.Members.{isThreshold, size, isSet, firstOf}
 use Rattle.members.proofs.Words.{firstOf-isSet, size-le}
-use Rattle.shares.specs.Layout.{width, shareWord}
+use Rattle.shares.specs.Layout.{width}
 use Rattle.shares.specs.Internal.Shape.{InRange, shapeOf, Station}
 use Rattle.shares.specs.declared.Shape.{Shape}
 use Rattle.shares.proofs.Shapes.{in-range, station}
-use Rattle.voting.specs.Votes.{usable, voteRows}
-use Rattle.reconstruction.specs.Reconstruction.{Opened, unopened, isQuorum, finish, reconstruct}
+use Rattle.reconstruction.specs.Reconstruction.{Opened, unopened, isQuorum, reconstruct}
+use Rattle.reconstruction.specs.Internal.Steps.{byShares}
 use Rattle.reconstruction.proofs.Opening.{reconstruct-finishes}
 
 -- t and d have passed
@@ -83,16 +83,9 @@ module _ (t d present quorum : ℕ) (words : List ℕ) (b1 : Bool) (e1 : b1 ≡ 
           refused-13 h answer e =
               e ∙ sym (rw (threshold, in-length, eq-eqb (length words) (size t * width t d) as-long, is-set, fails b3 (isQuorum t quorum) asked h))
 
-          pub goes-on : not b3 ≡ false → (answer : Opened)
-              → answer
-              ≡ finish (ownPoints (s .t)) (s .t) (s .d) quorum (usable (s .t) (s .d) present words)
-              (voteRows (s .t) (s .d) (usable (s .t) (s .d) present words) words) (shareWord (s .t) (s .d) words)
-              → answer ≡ opened
+          pub goes-on : not b3 ≡ false → (answer : Opened) → answer ≡ byShares s present quorum words → answer ≡ opened
           goes-on h answer e =
-              subst
-              (λ (z : Shape).
-              answer
-              ≡ finish (ownPoints (z .t)) (z .t) (z .d) quorum (usable (z .t) (z .d) present words)
-              (voteRows (z .t) (z .d) (usable (z .t) (z .d) present words) words) (shareWord (z .t) (z .d) words)) es e
+              e
+              ∙ ap (λ (z : Shape). byShares z present quorum words) es
               ∙ sym (reconstruct-finishes t d present quorum words threshold in-length as-long (ltb-true present (2 ^ size t) is-set)
               (passes b3 (isQuorum t quorum) asked h))

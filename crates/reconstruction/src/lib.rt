@@ -10,13 +10,12 @@ ghost use Rattle.polynomial.specs.Polynomial.{value};
 ghost use Rattle.members.specs.Members.{isThreshold, size, ownPoints, has, setOf, isSet, card, adding};
 ghost use Rattle.shares.specs.Layout.{shareWord};
 ghost use Rattle.shares.specs.Internal.Shape.{Station, Room};
-ghost use Rattle.voting.specs.Votes.{usable, voteRows};
 ghost use Rattle.pruning.specs.Pruning.{survivors};
 ghost use Rattle.decoding.specs.Answer.{answerOf as decodedOf};
 ghost use Rattle.decoding.specs.Decoding.{need, find, decodedFrom};
 ghost use Rattle.reconstruction.specs.Answer.{answerOf};
-ghost use Rattle.reconstruction.specs.Reconstruction.{unopened, isQuorum, required, openedFrom, finish, reconstruct as reconstructOf};
-ghost use Rattle.reconstruction.specs.Internal.Steps.{Voted, Decodable};
+ghost use Rattle.reconstruction.specs.Reconstruction.{unopened, isQuorum, required, reconstruct as reconstructOf};
+ghost use Rattle.reconstruction.specs.Internal.Steps.{Voted, Decodable, byWords, byVotes, byShares};
 
 // Opened, with the survivors and those of them that agree; or refused with document 01's number, and with the survivors if that is 16.
 pub enum Outcome {
@@ -118,7 +117,7 @@ fn open_words(
     requires { ⌜ Room s (now shares) ⌝ }
     requires { ⌜ Decodable (s .t) (s .d) (now shares) survived ⌝ }
     requires { ⌜ (now points ≡ ownPoints (s .t)) × (length (now values) ≡ s .n) × (length (now f) ≡ suc (s .t)) × (length (now secret) ≡ s .d) ⌝ }
-    ensures { λ r. ⌜ answerOf r (now (secret .exit)) ≡ openedFrom (ownPoints (s .t)) (s .t) (s .d) (shareWord (s .t) (s .d) (now (shares .entry))) survived (find (ownPoints (s .t)) (s .t) (s .d) (shareWord (s .t) (s .d) (now (shares .entry))) survived) ⌝ }
+    ensures { λ r. ⌜ answerOf r (now (secret .exit)) ≡ byWords s (now (shares .entry)) survived ⌝ }
 {
     let mut agreed = survived;
     let mut k = 0;
@@ -152,7 +151,7 @@ fn open_at_own(
     requires { ⌜ Room s (now shares) ⌝ }
     requires { ⌜ Decodable (s .t) (s .d) (now shares) survived ⌝ }
     requires { ⌜ (length (now points) ≡ s .n) × (length (now values) ≡ s .n) × (length (now f) ≡ suc (s .t)) × (length (now secret) ≡ s .d) ⌝ }
-    ensures { λ r. ⌜ answerOf r (now (secret .exit)) ≡ openedFrom (ownPoints (s .t)) (s .t) (s .d) (shareWord (s .t) (s .d) (now (shares .entry))) survived (find (ownPoints (s .t)) (s .t) (s .d) (shareWord (s .t) (s .d) (now (shares .entry))) survived) ⌝ }
+    ensures { λ r. ⌜ answerOf r (now (secret .exit)) ≡ byWords s (now (shares .entry)) survived ⌝ }
 {
     members::own_points(points);
     open_words(s, shares, survived, points, values, f, secret)
@@ -163,7 +162,7 @@ fn open_all(s: shares::Shape, shares: &[u16], survived: u32, secret: &mut [u16])
     requires { ⌜ Room s (now shares) ⌝ }
     requires { ⌜ Decodable (s .t) (s .d) (now shares) survived ⌝ }
     requires { ⌜ length (now secret) ≡ s .d ⌝ }
-    ensures { λ r. ⌜ answerOf r (now (secret .exit)) ≡ openedFrom (ownPoints (s .t)) (s .t) (s .d) (shareWord (s .t) (s .d) (now (shares .entry))) survived (find (ownPoints (s .t)) (s .t) (s .d) (shareWord (s .t) (s .d) (now (shares .entry))) survived) ⌝ }
+    ensures { λ r. ⌜ answerOf r (now (secret .exit)) ≡ byWords s (now (shares .entry)) survived ⌝ }
 {
     let n = s.n;
     let coefficients = s.t + 1;
@@ -226,7 +225,7 @@ pub fn open_voted(
     requires { ⌜ Room s (now shares) ⌝ }
     requires { ⌜ Voted s able (now rows) (now shares) ⌝ }
     requires { ⌜ length (now secret) ≡ s .d ⌝ }
-    ensures { λ r. ⌜ answerOf r (now (secret .exit)) ≡ finish (ownPoints (s .t)) (s .t) (s .d) quorum able (now (rows .entry)) (shareWord (s .t) (s .d) (now (shares .entry))) ⌝ }
+    ensures { λ r. ⌜ answerOf r (now (secret .exit)) ≡ byVotes s quorum able (now (rows .entry)) (now (shares .entry)) ⌝ }
 {
     if (members::card(able) as usize) < required_members(s.t, quorum) {
         return refuse(secret, 14, 0);
@@ -249,7 +248,7 @@ fn open_by_votes(
 ) -> Outcome
     requires { ⌜ Room s (now shares) ⌝ }
     requires { ⌜ (length (now rows) ≡ s .n) × (length (now secret) ≡ s .d) ⌝ }
-    ensures { λ r. ⌜ answerOf r (now (secret .exit)) ≡ finish (ownPoints (s .t)) (s .t) (s .d) quorum (usable (s .t) (s .d) present (now (shares .entry))) (voteRows (s .t) (s .d) (usable (s .t) (s .d) present (now (shares .entry))) (now (shares .entry))) (shareWord (s .t) (s .d) (now (shares .entry))) ⌝ }
+    ensures { λ r. ⌜ answerOf r (now (secret .exit)) ≡ byShares s present quorum (now (shares .entry)) ⌝ }
 {
     let able = voting::usable_members(s, present, shares);
     voting::fill_rows(s, able, shares, rows);
@@ -266,7 +265,7 @@ fn open_shares(
 ) -> Outcome
     requires { ⌜ Room s (now shares) ⌝ }
     requires { ⌜ length (now secret) ≡ s .d ⌝ }
-    ensures { λ r. ⌜ answerOf r (now (secret .exit)) ≡ finish (ownPoints (s .t)) (s .t) (s .d) quorum (usable (s .t) (s .d) present (now (shares .entry))) (voteRows (s .t) (s .d) (usable (s .t) (s .d) present (now (shares .entry))) (now (shares .entry))) (shareWord (s .t) (s .d) (now (shares .entry))) ⌝ }
+    ensures { λ r. ⌜ answerOf r (now (secret .exit)) ≡ byShares s present quorum (now (shares .entry)) ⌝ }
 {
     let n = s.n;
     let mut rows = [0u32; 31];

@@ -1,4 +1,4 @@
--- What votes have to be for the second half of opening, and what the survivors have to be before their words are opened.
+-- What votes have to be for the second half of opening, what the survivors have to be before their words are opened, and what each comes to.
 -- Assumes nothing.
 use Prim.Native.Nat.{ℕ, suc, _≤_, _<_, _^_}
 use mathlib.Core.Path.{_≡_}
@@ -7,9 +7,12 @@ use mathlib.Core.List.{List}
 use lib.ListN.{length, getD}
 use Rattle.lists.specs.Tabulate.{each}
 use Rattle.field.specs.Field.{prime}
-use Rattle.members.specs.Members.{size, has, isSet, card}
+use Rattle.members.specs.Members.{size, ownPoints, has, isSet, card}
 use Rattle.shares.specs.Layout.{shareWord}
 use Rattle.shares.specs.declared.Shape.{Shape}
+use Rattle.voting.specs.Votes.{usable, voteRows}
+use Rattle.decoding.specs.Decoding.{find}
+use Rattle.reconstruction.specs.Reconstruction.{Opened, openedFrom, finish}
 
 -- votes from anywhere: a row for each of n members, and field words as share words of every member that has a vote
 pub record Voted (s : Shape) (able : ℕ) (rows words : List ℕ) : Type 0 where
@@ -23,3 +26,19 @@ pub record Decodable (t d : ℕ) (words : List ℕ) (set : ℕ) : Type 0 where
   pub below : set < 2 ^ size t
   pub enough : suc t ≤ card (size t) set
   pub field : (i : ℕ) → i < size t → has set i ≡ true → (k : ℕ) → k < d → shareWord t d words i k < prime
+
+-- what the words of the survivors come to
+abbrev pub byWords : Shape → List ℕ → ℕ → Opened
+byWords s words set =
+    let y : ℕ → ℕ → ℕ = shareWord (s .t) (s .d) words in
+    openedFrom (ownPoints (s .t)) (s .t) (s .d) y set (find (ownPoints (s .t)) (s .t) (s .d) y set)
+
+-- what the usable members and any votes come to
+abbrev pub byVotes : Shape → ℕ → ℕ → List ℕ → List ℕ → Opened
+byVotes s quorum able rows words = finish (ownPoints (s .t)) (s .t) (s .d) quorum able rows (shareWord (s .t) (s .d) words)
+
+-- and with the votes of the shares themselves
+abbrev pub byShares : Shape → ℕ → ℕ → List ℕ → Opened
+byShares s present quorum words =
+    let able : ℕ = usable (s .t) (s .d) present words in
+    byVotes s quorum able (voteRows (s .t) (s .d) able words) words
