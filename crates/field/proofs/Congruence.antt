@@ -1,7 +1,7 @@
 -- Numbers that are the same modulo p, and how such equations are put together. −1 is 65520.
 -- Assumes nothing.
 use mathlib.Core.Path.{_≡_, refl, sym, ap, _∙_}
-use Prim.Native.Nat.{ℕ, zero, suc, _+_, _-_, _*_, _/_, _%_, _^_, _<_}
+use Prim.Native.Nat.{ℕ, zero, suc, _+_, _*_, _/_, _%_, _^_, _<_}
 use native.Mathlib.Nat.{mul-comm, pow-suc, pow-zero}
 use native.Mathlib.Omega.{arith}
 

@@ -157,9 +157,6 @@ step-half m r d h e = omega arith
 min-lt : (x y : ℕ) → x < 2 → min x y < 2
 min-lt x y h = omega arith
 
-lt-of-suc : (y : ℕ) → suc y < 2 → y < 2
-lt-of-suc y h = omega arith
-
 max-lt : (x y : ℕ) → x < 2 → y < 2 → max x y < 2
 max-lt x y h k = omega arith
 

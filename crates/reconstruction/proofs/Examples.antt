@@ -14,7 +14,8 @@ use Rattle.reconstruction.specs.Reconstruction.{unopened, isQuorum, requ
 use Rattle.reconstruction.specs.Examples.{Examples}
 
 pub examples : Examples
-unfolding tab all count keep first choose difference product power inverse eval value linear slopes interpolate size ownPoints bit has setOf card
+unfolding tab all count keep first choose difference product power inverse eval value linear slopes interpolate size ownPoints bit has setOf
+    card
     membersOf surplus need agreeing through find tag width word shareWords tagWord keyα keyβ sample keyless votes round rounds survivors fieldShare
     usable tagHolds accepts voteRows unopened isQuorum required atZero openedFrom finish reconstruct
 examples = search

@@ -28,7 +28,12 @@ fn opened() {
         b"D\t1\t1\t0\nP\t2\t256\t258\t514\t770\t2\t1\t2\t2\t2\t3\nP\t1\t253\t254\t507\t760\t1\t1\t1\t2\t1\t3\n",
     );
     prints(
-        b"D\t2\t2\t0\nP\t1\t0\t0\t0\t0\t0\t0\t0\t0\t0\t0\t0\t0\t0\t0\t0\t0\t0\nP\t2\t0\t0\t0\t0\t0\t0\t0\t0\t0\t0\t0\t0\t0\t0\t0\t0\t0\nP\t3\t0\t0\t0\t0\t0\t0\t0\t0\t0\t0\t0\t0\t0\t0\t0\t0\t0\nP\t4\t1\t0\t0\t0\t0\t0\t0\t0\t0\t0\t0\t0\t0\t0\t0\t0\t0\nP\t5\t0\t0\t0\t0\t0\t0\t0\t0\t0\t0\t0\t0\t0\t0\t0\t0\t0\n",
+        b"D\t2\t2\t0\n\
+          P\t1\t0\t0\t0\t0\t0\t0\t0\t0\t0\t0\t0\t0\t0\t0\t0\t0\t0\n\
+          P\t2\t0\t0\t0\t0\t0\t0\t0\t0\t0\t0\t0\t0\t0\t0\t0\t0\t0\n\
+          P\t3\t0\t0\t0\t0\t0\t0\t0\t0\t0\t0\t0\t0\t0\t0\t0\t0\t0\n\
+          P\t4\t1\t0\t0\t0\t0\t0\t0\t0\t0\t0\t0\t0\t0\t0\t0\t0\t0\n\
+          P\t5\t0\t0\t0\t0\t0\t0\t0\t0\t0\t0\t0\t0\t0\t0\t0\t0\t0\n",
     );
     prints(
         b"D\t1\t2\t2\nP\t1\t5\t65520\t0\t0\t0\t0\t0\t0\t0\t0\t0\nP\t3\t5\t65520\t0\t0\t0\t0\t0\t0\t0\t0\t0\n",
@@ -57,7 +62,12 @@ fn unopened() {
         b"D\t1\t1\t0\nP\t1\t253\t0\t0\t0\t0\t0\t0\t0\t0\t0\nP\t2\t256\t0\t0\t0\t0\t0\t0\t0\t0\t0\nP\t3\t300\t0\t0\t0\t0\t0\t0\t0\t0\t0\n",
     );
     prints(
-        b"D\t2\t2\t0\nP\t1\t0\t0\t0\t0\t0\t0\t0\t0\t0\t0\t0\t0\t0\t0\t0\t0\t0\nP\t2\t0\t0\t0\t0\t0\t0\t0\t0\t0\t0\t0\t0\t0\t0\t0\t0\t0\nP\t3\t0\t0\t0\t0\t0\t0\t0\t0\t0\t0\t0\t0\t0\t0\t0\t0\t0\nP\t4\t1\t0\t0\t0\t0\t0\t0\t0\t0\t0\t0\t0\t0\t0\t0\t0\t0\nP\t5\t0\t1\t0\t0\t0\t0\t0\t0\t0\t0\t0\t0\t0\t0\t0\t0\t0\n",
+        b"D\t2\t2\t0\n\
+          P\t1\t0\t0\t0\t0\t0\t0\t0\t0\t0\t0\t0\t0\t0\t0\t0\t0\t0\n\
+          P\t2\t0\t0\t0\t0\t0\t0\t0\t0\t0\t0\t0\t0\t0\t0\t0\t0\t0\n\
+          P\t3\t0\t0\t0\t0\t0\t0\t0\t0\t0\t0\t0\t0\t0\t0\t0\t0\t0\n\
+          P\t4\t1\t0\t0\t0\t0\t0\t0\t0\t0\t0\t0\t0\t0\t0\t0\t0\t0\n\
+          P\t5\t0\t1\t0\t0\t0\t0\t0\t0\t0\t0\t0\t0\t0\t0\t0\t0\t0\n",
     );
 }
 
