@@ -1,4 +1,4 @@
--- `test_decoding::fill` is safe and ends.
+-- `test_decoding::fill` is safe and ends: a store keeps the length, and i goes up to it.
 -- Assumes nothing.
 use mathlib.Core.Path.{_≡_}
 use Prim.Native.Nat.{_≤_, _-_}

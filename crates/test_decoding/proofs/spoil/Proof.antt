@@ -1,4 +1,4 @@
--- `test_decoding::spoil` is safe and ends.
+-- `test_decoding::spoil` is safe and ends: a store keeps the length, and k goes up to it.
 -- Assumes nothing.
 use mathlib.Core.Path.{_≡_}
 use Prim.Native.Nat.{_≤_, _-_}
