@@ -80,16 +80,16 @@ extern "C" {
 
 /* How many bytes of stack a call takes at most, with its return address and the arguments on the
    stack, without what memcpy and memset take themselves. In brackets the sum of the frames along the
-   deepest chain of calls, in the code that `rt staticlib` writes for x86-64; the figures are those
-   sums rounded up to a multiple of 256. examples/stack_use.c looks that no call takes more. */
-#define RUTZEBAM_DEAL_STACK_BYTES 512    /* (472) */
-#define RUTZEBAM_OPEN_STACK_BYTES 1536   /* (1400) */
+   deepest chain of calls, in the code that `rt staticlib` writes for x86-64, rounded up to 8; the
+   figures are those sums rounded up to a multiple of 256. examples/stack_use.c looks that no call takes more. */
+#define RUTZEBAM_DEAL_STACK_BYTES 768    /* (568) */
+#define RUTZEBAM_OPEN_STACK_BYTES 1792   /* (1688) */
 #define RUTZEBAM_PRUNE_STACK_BYTES 256   /* (32) */
-#define RUTZEBAM_DECODE_STACK_BYTES 1024 /* (984) */
+#define RUTZEBAM_DECODE_STACK_BYTES 1280 /* (1144) */
 #define RUTZEBAM_TAG_STACK_BYTES 256     /* (40) */
 #define RUTZEBAM_READ_STACK_BYTES 768    /* (536) */
 /* The most of them. */
-#define RUTZEBAM_STACK_BYTES 1536
+#define RUTZEBAM_STACK_BYTES 1792
 
 /* Deals the secret to n members, with random words that the caller draws afresh and keeps to itself.
    1: t. 2: the secret's length. 3: how many random words. 4: how many words for shares.
