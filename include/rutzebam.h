@@ -80,8 +80,8 @@ extern "C" {
 
 /* How many bytes of stack a call takes at most, with its return address and the arguments on the
    stack, without what memcpy and memset take themselves. In brackets the sum of the frames along the
-   deepest chain of calls, in the code that `rt staticlib` writes for x86-64, rounded up to 8; the
-   figures are those sums rounded up to a multiple of 256. examples/stack_use.c looks that no call takes more. */
+   deepest chain of calls, in the code that `rt staticlib` writes for x86-64; the figures are those
+   sums rounded up to a multiple of 256. examples/stack_use.c looks that no call takes more. */
 #define RUTZEBAM_DEAL_STACK_BYTES 768    /* (568) */
 #define RUTZEBAM_OPEN_STACK_BYTES 1792   /* (1688) */
 #define RUTZEBAM_PRUNE_STACK_BYTES 256   /* (32) */

@@ -1,4 +1,5 @@
 // Reconstruction (document 01: opening): shares to the secret.
+use shares::Shape;
 ghost use mathlib.Core.Path.{_≡_};
 ghost use mathlib.Core.Bool.{true, cond, _&&_};
 ghost use Prim.Native.Nat.{suc, _<_, _≤_};
@@ -35,7 +36,7 @@ fn refuse(secret: &mut [u16], number: u16, survived: u32) -> Outcome
 }
 
 // The members' share words at place k.
-fn column(s: shares::Shape, shares: &[u16], k: usize, values: &mut [u16])
+fn column(s: Shape, shares: &[u16], k: usize, values: &mut [u16])
     requires { ⌜ Room s (now shares) ⌝ }
     requires { ⌜ (k < s .d) × (length (now values) ≡ s .n) ⌝ }
     ensures { λ r. ⌜ now (values .exit) ≡ tab (s .n) (λ i. shareWord (s .t) (s .d) (now (shares .entry)) i k) ⌝ }
@@ -78,7 +79,7 @@ fn meeting_members(points: &[u16], values: &[u16], f: &[u16], agreed: u32) -> u3
 
 // The decoder's answer for word k, with the members' words and the coefficients in the buffers.
 fn decode_word(
-    s: shares::Shape,
+    s: Shape,
     shares: &[u16],
     k: usize,
     survived: u32,
@@ -106,7 +107,7 @@ fn too_few(t: usize, survived: u32, left: u32) -> bool
 
 // All words, one after the other: the secret, with those of the survivors that meet every word's polynomial; 16 where a word has none, or where too few are left.
 fn open_words(
-    s: shares::Shape,
+    s: Shape,
     shares: &[u16],
     survived: u32,
     points: &[u16],
@@ -140,7 +141,7 @@ fn open_words(
 
 // The same at the members' own points, which it writes.
 fn open_at_own(
-    s: shares::Shape,
+    s: Shape,
     shares: &[u16],
     survived: u32,
     points: &mut [u16],
@@ -158,7 +159,7 @@ fn open_at_own(
 }
 
 // The same, with room for the points, and for the values and the coefficients of one word.
-fn open_all(s: shares::Shape, shares: &[u16], survived: u32, secret: &mut [u16]) -> Outcome
+fn open_all(s: Shape, shares: &[u16], survived: u32, secret: &mut [u16]) -> Outcome
     requires { ⌜ Room s (now shares) ⌝ }
     requires { ⌜ Decodable (s .t) (s .d) (now shares) survived ⌝ }
     requires { ⌜ length (now secret) ≡ s .d ⌝ }
@@ -203,7 +204,7 @@ fn required_members(t: usize, quorum: u16) -> usize
 }
 
 // The quorum is 0 or t + 1 to n.
-fn is_quorum(s: shares::Shape, quorum: u16) -> bool
+fn is_quorum(s: Shape, quorum: u16) -> bool
     requires { ⌜ Station s ⌝ }
     ensures { λ r. ⌜ r ≡ isQuorum (s .t) quorum ⌝ }
 {
@@ -215,7 +216,7 @@ fn is_quorum(s: shares::Shape, quorum: u16) -> bool
 
 // The second half of opening, with votes from anywhere: 14, the survivors, 15, then the words.
 pub fn open_voted(
-    s: shares::Shape,
+    s: Shape,
     quorum: u16,
     able: u32,
     rows: &[u32],
@@ -239,7 +240,7 @@ pub fn open_voted(
 
 // Opening after its first five checks: the usable members, their votes, and the second half.
 fn open_by_votes(
-    s: shares::Shape,
+    s: Shape,
     present: u32,
     quorum: u16,
     rows: &mut [u32],
@@ -256,13 +257,7 @@ fn open_by_votes(
 }
 
 // The same, with room for the vote rows.
-fn open_shares(
-    s: shares::Shape,
-    present: u32,
-    quorum: u16,
-    shares: &[u16],
-    secret: &mut [u16],
-) -> Outcome
+fn open_shares(s: Shape, present: u32, quorum: u16, shares: &[u16], secret: &mut [u16]) -> Outcome
     requires { ⌜ Room s (now shares) ⌝ }
     requires { ⌜ length (now secret) ≡ s .d ⌝ }
     ensures { λ r. ⌜ answerOf r (now (secret .exit)) ≡ byShares s present quorum (now (shares .entry)) ⌝ }

@@ -1,4 +1,5 @@
 // Votes from shares (document 01, 'Votes and pruning'): who is usable, and who accepts whom.
+use shares::Shape;
 ghost use mathlib.Core.Path.{_≡_};
 ghost use mathlib.Core.Bool.{cond, _&&_};
 ghost use Prim.Native.Nat.{_+_, _<_, _≤_};
@@ -11,7 +12,7 @@ ghost use Rattle.shares.specs.Internal.Shape.{Room};
 ghost use Rattle.voting.specs.Votes.{fieldShare, usable, tagHolds, accepts, voteRows};
 
 // The set, and member i if it is present and every word of its share is a field word.
-fn usable_member(s: shares::Shape, present: u32, shares: &[u16], i: usize, set: u32) -> u32
+fn usable_member(s: Shape, present: u32, shares: &[u16], i: usize, set: u32) -> u32
     requires { ⌜ Room s (now shares) ⌝ }
     requires { ⌜ i < s .n ⌝ }
     ensures { λ r. ⌜ r ≡ cond (has present i && fieldShare (s .t) (s .d) (now (shares .entry)) i) (adding set i) set ⌝ }
@@ -28,7 +29,7 @@ fn usable_member(s: shares::Shape, present: u32, shares: &[u16], i: usize, set: 
 }
 
 // The usable members.
-pub fn usable_members(s: shares::Shape, present: u32, shares: &[u16]) -> u32
+pub fn usable_members(s: Shape, present: u32, shares: &[u16]) -> u32
     requires { ⌜ Room s (now shares) ⌝ }
     ensures { λ r. ⌜ r ≡ usable (s .t) (s .d) present (now (shares .entry)) ⌝ }
 {
@@ -51,7 +52,7 @@ fn tag_holds(shares: &[u16], d: usize, own: usize, key: usize, at: usize) -> boo
 }
 
 // tag(i,j) is that of i's share words under key(j,i).
-fn accepted(s: shares::Shape, shares: &[u16], i: usize, j: usize) -> bool
+fn accepted(s: Shape, shares: &[u16], i: usize, j: usize) -> bool
     requires { ⌜ Room s (now shares) ⌝ }
     requires { ⌜ (i < s .n) × (j < s .n) ⌝ }
     ensures { λ r. ⌜ r ≡ tagHolds (s .t) (s .d) (now (shares .entry)) i j ⌝ }
@@ -63,7 +64,7 @@ fn accepted(s: shares::Shape, shares: &[u16], i: usize, j: usize) -> bool
 }
 
 // The set, and member j if it is usable and accepts member i.
-fn vote(s: shares::Shape, able: u32, shares: &[u16], i: usize, j: usize, set: u32) -> u32
+fn vote(s: Shape, able: u32, shares: &[u16], i: usize, j: usize, set: u32) -> u32
     requires { ⌜ Room s (now shares) ⌝ }
     requires { ⌜ (i < s .n) × (j < s .n) ⌝ }
     ensures { λ r. ⌜ r ≡ cond (has able j && tagHolds (s .t) (s .d) (now (shares .entry)) i j) (adding set j) set ⌝ }
@@ -78,7 +79,7 @@ fn vote(s: shares::Shape, able: u32, shares: &[u16], i: usize, j: usize, set: u3
 }
 
 // Those who accept member i.
-fn row(s: shares::Shape, able: u32, shares: &[u16], i: usize) -> u32
+fn row(s: Shape, able: u32, shares: &[u16], i: usize) -> u32
     requires { ⌜ Room s (now shares) ⌝ }
     requires { ⌜ i < s .n ⌝ }
     ensures { λ r. ⌜ r ≡ setOf (size (s .t)) (λ j. accepts (s .t) (s .d) able (now (shares .entry)) j i) ⌝ }
@@ -96,7 +97,7 @@ fn row(s: shares::Shape, able: u32, shares: &[u16], i: usize) -> u32
 }
 
 // The vote rows of all members.
-pub fn fill_rows(s: shares::Shape, able: u32, shares: &[u16], rows: &mut [u32])
+pub fn fill_rows(s: Shape, able: u32, shares: &[u16], rows: &mut [u32])
     requires { ⌜ Room s (now shares) ⌝ }
     requires { ⌜ length (now rows) ≡ s .n ⌝ }
     ensures { λ r. ⌜ now (rows .exit) ≡ voteRows (s .t) (s .d) able (now (shares .entry)) ⌝ }

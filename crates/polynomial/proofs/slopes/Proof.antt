@@ -81,6 +81,10 @@ slopes-spec =
     (λ c. omega arith)
     (λ c. omega arith)
     (λ c. simp length-set (omega arith))
-    (λ c. search next)
+    (λ c.
+    let (at-loop, in-loop, rise) : tie.At-loop Inv-loop μ-loop × tie.In-loop Inv-loop μ-loop × tie.After-subtract Inv-loop μ-loop = (search, search, search) in
+    let run : tie.After-inverse-of-difference Inv-loop μ-loop = search in
+    next _ _ _ _ _ _ _ _ _ _ (in-loop .loop-test .taken) (at-loop .loop .inv) (rise .subtract .ensures) (run .inverse-of-difference .ensures)
+    (c .multiply .ensures))
     (λ c. search needs)
     (λ c. search last))

@@ -22,7 +22,7 @@ show-spec =
     (λ c. omega arith)
     (λ c. omega arith)
     (λ c. omega arith)
-    (λ c. omega (arith, c .shared-slice-known2 .given (c .before .before .loop .i)))
+    (λ c. let at : tie.At-loop Inv-loop μ-loop = search in omega (arith, c .shared-slice-known2 .given (at .loop .i)))
     (λ c κs. search needs)
     (λ c. omega arith)
     (λ c. omega arith)
