@@ -7,10 +7,10 @@ use Prim.Native.Nat.{ℕ, suc, _+_, _≤_, _<_, zero-le}
 use native.Mathlib.Numerals.{add-one}
 use native.Mathlib.Omega.{arith}
 use lib.Dec.{eqb}
-use lib.ListN.{length, getD, drop, set as store, length-set, replicate}
+use lib.ListN.{length, getD, set as store, length-set, replicate}
 use Rattle.members.specs.Members.{size, has}
 use Rattle.locator.specs.declared.Degrees.{Degrees}
-use Rattle.locator.specs.Internal.Pairs.{offBy, State, start, firstUp, secondUp, firstTurn, stepBy, stepped, passed, stateOf}
+use Rattle.locator.specs.Internal.Pairs.{offBy, State, start, firstUp, secondUp, firstTurn, stepBy, stepped, passed, stateOf, Located}
 
 -- a step raises one degree at most
 by-turn : (b c : Bool) (x d0 d1 : ℕ) (s : State)
@@ -72,7 +72,8 @@ module _ {xs : List ℕ} {t : ℕ} {values : List ℕ} {set : ℕ} where
       }
 
   pub last : {p q : List ℕ} {at : Degrees} {i : ℕ} → Turn xs t values set p q at i → length values ≤ i → length values ≡ size t
-      → drop 32 q ≡ passed xs t (λ k. getD values k 0) set 31 (size t) .e1
-  last {i = i} r h long =
+      → Located xs t values set q
+  last {p} {q} {at} {i} r h long =
       let e : i ≡ size t = omega (arith, r .inside) in
-      ap (λ (u : State). u .e1) (r .so-far) ∙ ap (λ (k : ℕ). passed xs t (λ j. getD values j 0) set 31 k .e1) e
+      let all : stateOf p q at ≡ passed xs t (λ k. getD values k 0) set 31 (size t) = r .so-far ∙ ap (passed xs t (λ k. getD values k 0) set 31) e in
+      record { n-is = ap (λ (u : State). u .n1) all; e-is = ap (λ (u : State). u .e1) all }

@@ -5,9 +5,9 @@
 ghost use mathlib.Core.Path.{_≡_};
 ghost use mathlib.Core.Bool.{cond};
 ghost use Prim.Native.Nat.{_≤_};
-ghost use lib.ListN.{length, getD, take, drop, replicate};
+ghost use lib.ListN.{length, take, drop, replicate};
 ghost use Rattle.members.specs.Members.{size};
-ghost use Rattle.locator.specs.Internal.Pairs.{raised, mixed, offBy, Advanced, firstTurn, stepped, passed, stateOf};
+ghost use Rattle.locator.specs.Internal.Pairs.{raised, mixed, offBy, Advanced, firstTurn, stepped, stateOf, Located};
 
 // The degree of the first pair's N, and that of the second pair's E.
 struct Degrees {
@@ -123,7 +123,7 @@ fn pass_member(
 // All members' steps, from pairs of zeros.
 fn pass(t: usize, points: &[u16], values: &[u16], set: u32, p: &mut [u16], q: &mut [u16])
     requires { ⌜ (t ≤ 15) × (length (now points) ≡ size t) × (length (now values) ≡ size t) × (now p ≡ replicate 64 0) × (now q ≡ replicate 64 0) ⌝ }
-    ensures { λ r. ⌜ drop 32 (now (q .exit)) ≡ passed (now (points .entry)) t (λ i. getD (now (values .entry)) i 0) set 31 (size t) .e1 ⌝ }
+    ensures { λ r. ⌜ Located (now (points .entry)) t (now (values .entry)) set (now (q .exit)) ⌝ }
 {
     p[0] = 1;
     q[32] = 1;
@@ -141,7 +141,7 @@ fn pass(t: usize, points: &[u16], values: &[u16], set: u32, p: &mut [u16], q: &m
 // The second pair after all members, in place of zeros.
 pub fn locate(t: usize, points: &[u16], values: &[u16], set: u32, pair: &mut [u16])
     requires { ⌜ (t ≤ 15) × (length (now points) ≡ size t) × (length (now values) ≡ size t) × (now pair ≡ replicate 64 0) ⌝ }
-    ensures { λ r. ⌜ drop 32 (now (pair .exit)) ≡ passed (now (points .entry)) t (λ i. getD (now (values .entry)) i 0) set 31 (size t) .e1 ⌝ }
+    ensures { λ r. ⌜ Located (now (points .entry)) t (now (values .entry)) set (now (pair .exit)) ⌝ }
 {
     let mut first = [0u16; 64];
     pass(t, points, values, set, &mut first, pair);

@@ -157,7 +157,7 @@ fn fields(line: &[u8], out: &mut [u16]) -> bool
     rest.len() == 0
 }
 
-// The numbers of a line that is a letter and then exactly as many numerals as `out` has words.
+// The numbers of a line that is a letter and then exactly as many numerals as `out` has words. For any other line `out` is left with words of no meaning.
 pub fn numbers(line: &[u8], letter: u8, out: &mut [u16]) -> bool
     requires { ⌜ Marks letter ⌝ }
     ensures { λ r. ⌜ lineOf letter (length (now (out .entry))) (now (line .entry)) ≡ cond r (some (now (out .exit))) none ⌝ }

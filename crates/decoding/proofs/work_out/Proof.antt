@@ -22,7 +22,7 @@ work-out-spec =
     (λ c. search needs)
     (λ c κs.
     let at-locate : tie.After-locate = search in
-    ((search needs, search needs, search needs, search needs, search needs, search needs), second-half (at-locate .locate .last .1 .1 .1 .1 .0) _ (at-locate .locate .ensures)))
+    ((search needs, search needs, search needs, search needs, search needs, search needs), second-half (at-locate .locate .last .1 .1 .1 .1 .0) _ (at-locate .locate .ensures .e-is)))
     (λ c. search needs)
     (λ c. search needs)
     (λ c. search needs)

@@ -9,7 +9,7 @@ use lib.Dec.{leb, eqb}
 use lib.ListN.{getD, take, drop, replicate}
 use Rattle.field.specs.Field.{sum, difference, product}
 use Rattle.polynomial.specs.Polynomial.{value}
-use Rattle.members.specs.Members.{has}
+use Rattle.members.specs.Members.{size, has}
 use Rattle.locator.specs.declared.Degrees.{Degrees}
 
 -- c + (X − x) · f without its last coefficient, which is 0 wherever this is used
@@ -89,3 +89,8 @@ pub record Advanced (x dp dq : ℕ) (p q p′ q′ : List ℕ) : Type 0 where
 -- the two pairs, from their buffers and the degrees: N in the first 32 words, E after them
 abbrev pub stateOf : List ℕ → List ℕ → Degrees → State
 stateOf p q d = record { n0 = take 32 p; e0 = drop 32 p; n1 = take 32 q; e1 = drop 32 q; a = d .first; b = d .second }
+
+-- a buffer has the second pair after all members, whole
+pub record Located (xs : List ℕ) (t : ℕ) (values : List ℕ) (set : ℕ) (pair : List ℕ) : Type 0 where
+  pub n-is : take 32 pair ≡ passed xs t (λ i. getD values i 0) set 31 (size t) .n1
+  pub e-is : drop 32 pair ≡ passed xs t (λ i. getD values i 0) set 31 (size t) .e1
