@@ -1,8 +1,9 @@
 /* Deals a secret to five members, sees that it opens, alters one member's share, and opens what
-   they hand in. */
+   they hand in, through its text: the shares are written down, read back and opened. */
 #include "rutzebam.h"
 
 #include <stdio.h>
+#include <string.h>
 
 enum {
     T = 2,
@@ -10,7 +11,8 @@ enum {
     N = 2 * T + 1,
     WIDTH = RUTZEBAM_SHARE_WORDS(T, D),
     SHARES = RUTZEBAM_SHARES_WORDS(T, D),
-    RANDOM = RUTZEBAM_RANDOM_WORDS(T, D)
+    RANDOM = RUTZEBAM_RANDOM_WORDS(T, D),
+    ALL = (1 << N) - 1
 };
 
 /* Words for an example only: a recorder takes them from a good source of randomness. A word above
@@ -31,8 +33,7 @@ static int opens(const uint16_t *shares, const uint16_t *secret, uint32_t member
 {
     uint16_t opened[D];
     uint32_t survivors = 0, agreeing = 0;
-    uint16_t number = rutzebam_open(T, (1u << N) - 1, 0, shares, SHARES,
-                                    opened, D, &survivors, &agreeing);
+    uint16_t number = rutzebam_open(T, ALL, 0, shares, SHARES, opened, D, &survivors, &agreeing);
     printf("opening: %u, survivors %u, agreeing %u, secret %u %u %u\n", number,
            (unsigned)survivors, (unsigned)agreeing, opened[0], opened[1], opened[2]);
     for (size_t k = 0; k < D; k++)
@@ -40,11 +41,30 @@ static int opens(const uint16_t *shares, const uint16_t *secret, uint32_t member
     return number == RUTZEBAM_OK && survivors == members && agreeing == members;
 }
 
+/* Writes the shares of all members as text, and reads them back into words: 1 if that gives what was
+   written. */
+static int hands_in(const uint16_t *shares, uint16_t *words)
+{
+    static uint8_t text[RUTZEBAM_WRITE_BYTES];
+    size_t count = 0, t = 0, d = 0;
+    uint16_t quorum = 0;
+    uint32_t present = 0;
+    uint16_t number = rutzebam_write(T, D, 0, ALL, shares, SHARES, text, sizeof text, &count);
+    printf("writing: %u, %u bytes\n", number, (unsigned)count);
+    if (number != RUTZEBAM_OK) return 0;
+
+    number = rutzebam_read(text, count, words, RUTZEBAM_READ_WORDS, &t, &d, &quorum, &present);
+    printf("reading: %u, present %u\n", number, (unsigned)present);
+    return number == RUTZEBAM_OK && t == T && d == D && quorum == 0 && present == ALL
+           && memcmp(words, shares, SHARES * sizeof *shares) == 0;
+}
+
 int main(void)
 {
     const uint16_t secret[D] = {250, 1873, 65520};
     uint16_t random[RANDOM];
     uint16_t shares[SHARES];
+    static uint16_t words[RUTZEBAM_READ_WORDS];
 
     draw(random, RANDOM);
     uint16_t number = rutzebam_deal(T, secret, D, random, RANDOM, shares, SHARES);
@@ -52,9 +72,12 @@ int main(void)
     if (number != RUTZEBAM_OK) return 1;
 
     /* the readings may be deleted only once the shares are seen to open to them */
-    if (!opens(shares, secret, 31)) return 1;
+    if (!opens(shares, secret, ALL)) return 1;
 
-    /* member 4 comes back with another first word: the others strike it */
+    /* member 4 comes back with another first word: the others strike it, also where the shares come
+       as text */
     shares[3 * WIDTH] = (uint16_t)((shares[3 * WIDTH] + 1u) % 65521u);
-    return opens(shares, secret, 23) ? 0 : 1;
+    if (!opens(shares, secret, 23)) return 1;
+    if (!hands_in(shares, words)) return 1;
+    return opens(words, secret, 23) ? 0 : 1;
 }

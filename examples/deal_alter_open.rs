@@ -1,5 +1,5 @@
 //! Deals a secret to five members, sees that it opens, alters one member's share, and opens what
-//! they hand in.
+//! they hand in, through its text: the shares are written down, read back and opened.
 
 unsafe extern "C" {
     fn rutzebam_deal(
@@ -22,12 +22,37 @@ unsafe extern "C" {
         survivors: *mut u32,
         agreeing: *mut u32,
     ) -> u16;
+    fn rutzebam_read(
+        text: *const u8,
+        text_len: usize,
+        words: *mut u16,
+        words_len: usize,
+        t: *mut usize,
+        d: *mut usize,
+        quorum: *mut u16,
+        present: *mut u32,
+    ) -> u16;
+    fn rutzebam_write(
+        t: usize,
+        d: usize,
+        quorum: u16,
+        present: u32,
+        shares: *const u16,
+        shares_len: usize,
+        text: *mut u8,
+        text_len: usize,
+        count: *mut usize,
+    ) -> u16;
 }
 
 const T: usize = 2;
 const D: usize = 3;
 const N: usize = 2 * T + 1;
 const WIDTH: usize = D + 3 * N;
+const ALL: u32 = (1 << N) - 1;
+/// How many words reading fills, and how many bytes are always enough for writing.
+const READ_WORDS: usize = 4867;
+const WRITE_BYTES: usize = 29362;
 
 /// Deals the secret into the shares. An error is the number of the check that failed.
 fn deal(t: usize, secret: &[u16], random: &[u16], shares: &mut [u16]) -> Result<(), u16> {
@@ -88,6 +113,69 @@ fn open(
     }
 }
 
+/// What is handed in: shares with zeros for absent members.
+#[derive(PartialEq)]
+struct HandIn {
+    t: usize,
+    d: usize,
+    quorum: u16,
+    present: u32,
+    shares: Vec<u16>,
+}
+
+/// Writes the text. An error is the number of the check that failed.
+fn write(given: &HandIn) -> Result<Vec<u8>, u16> {
+    let mut text = vec![0; WRITE_BYTES];
+    let mut count = 0;
+    // As above.
+    let number = unsafe {
+        rutzebam_write(
+            given.t,
+            given.d,
+            given.quorum,
+            given.present,
+            given.shares.as_ptr(),
+            given.shares.len(),
+            text.as_mut_ptr(),
+            text.len(),
+            &mut count,
+        )
+    };
+    text.truncate(count);
+    if number == 0 { Ok(text) } else { Err(number) }
+}
+
+/// Reads the text. An error is the number of the check that failed.
+fn read(text: &[u8]) -> Result<HandIn, u16> {
+    let mut shares = vec![0; READ_WORDS];
+    let (mut t, mut d, mut quorum, mut present) = (0, 0, 0, 0);
+    // As above.
+    let number = unsafe {
+        rutzebam_read(
+            text.as_ptr(),
+            text.len(),
+            shares.as_mut_ptr(),
+            shares.len(),
+            &mut t,
+            &mut d,
+            &mut quorum,
+            &mut present,
+        )
+    };
+    let n = 2 * t + 1;
+    shares.truncate(n * (d + 3 * n));
+    match number {
+        0 => Ok(HandIn {
+            t,
+            d,
+            quorum,
+            present,
+            shares,
+        }),
+        _ => Err(number),
+    }
+}
+
 /// Words for an example only: a recorder takes them from a good source of randomness. A word above
 /// 65520 is drawn again, so that no field word is likelier than another.
 fn draw(count: usize) -> Vec<u16> {
@@ -105,8 +193,7 @@ fn draw(count: usize) -> Vec<u16> {
 /// Opens the shares of all members: an error unless that gives the secret, and the members given
 /// survive and agree.
 fn must_open(shares: &[u16], secret: &[u16], members: u32) -> Result<(), String> {
-    let opened =
-        open(T, D, (1 << N) - 1, 0, shares).map_err(|refused| format!("opening: {refused:?}"))?;
+    let opened = open(T, D, ALL, 0, shares).map_err(|refused| format!("opening: {refused:?}"))?;
     let (survivors, agreeing) = (opened.survivors, opened.agreeing);
     println!(
         "opening: survivors {survivors}, agreeing {agreeing}, secret {:?}",
@@ -115,6 +202,26 @@ fn must_open(shares: &[u16], secret: &[u16], members: u32) -> Result<(), String>
     match opened.secret == secret && survivors == members && agreeing == members {
         true => Ok(()),
         false => Err("another secret or other members".to_string()),
+    }
+}
+
+/// Writes the shares of all members as text, and reads them back: an error unless that gives what
+/// was written.
+fn must_hand_in(shares: &[u16]) -> Result<Vec<u16>, String> {
+    let given = HandIn {
+        t: T,
+        d: D,
+        quorum: 0,
+        present: ALL,
+        shares: shares.to_vec(),
+    };
+    let text = write(&given).map_err(|number| format!("writing: {number}"))?;
+    println!("writing: {} bytes", text.len());
+    let found = read(&text).map_err(|number| format!("reading: {number}"))?;
+    println!("reading: present {}", found.present);
+    match found == given {
+        true => Ok(found.shares),
+        false => Err("read something else than was written".to_string()),
     }
 }
 
@@ -127,9 +234,11 @@ fn main() -> Result<(), String> {
     println!("dealing: 0");
 
     // The readings may be deleted only once the shares are seen to open to them.
-    must_open(&shares, &secret, 31)?;
+    must_open(&shares, &secret, ALL)?;
 
-    // Member 4 comes back with another first word: the others strike it.
+    // Member 4 comes back with another first word: the others strike it, also where the shares come
+    // as text.
     shares[3 * WIDTH] = ((shares[3 * WIDTH] as u32 + 1) % 65521) as u16;
-    must_open(&shares, &secret, 23)
+    must_open(&shares, &secret, 23)?;
+    must_open(&must_hand_in(&shares)?, &secret, 23)
 }

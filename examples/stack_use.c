@@ -7,7 +7,8 @@
    Every case runs once before it is measured, so that a dynamic linker's work is not counted.
 
    The cases are every t, with 1 and 64 words: shares as dealt, altered (all keys are 0, so that every
-   altered share survives and is decoded), lost and refused, and texts up to the longest.
+   altered share survives and is decoded), lost and refused, and texts read and written, up to the
+   longest.
 
    Prints the name of each call, the bytes seen and the bytes that rutzebam.h allows it. The exit
    status is 1 if a call used more than that, or did not answer what it should.
@@ -43,6 +44,7 @@ static uint8_t text[RUTZEBAM_TEXT_BYTES + 1];
 static size_t read_t, read_d;
 static uint16_t read_quorum;
 static uint32_t read_present;
+static size_t count;
 
 #define RUN(call) volatile unsigned char mark = 0; caller = &mark; answer = call; mark = 1
 
@@ -76,6 +78,11 @@ static void run_read(void)
     RUN(rutzebam_read(text, text_len, words, words_len, &read_t, &read_d, &read_quorum, &read_present));
 }
 
+static void run_write(void)
+{
+    RUN(rutzebam_write(t, secret_len, quorum, present, shares, shares_len, text, text_len, &count));
+}
+
 struct call {
     const char *name;
     void (*run)(void);
@@ -88,6 +95,7 @@ static struct call prune = {"rutzebam_prune", run_prune, RUTZEBAM_PRUNE_STACK_BY
 static struct call decode = {"rutzebam_decode", run_decode, RUTZEBAM_DECODE_STACK_BYTES, 0};
 static struct call tag = {"rutzebam_tag", run_tag, RUTZEBAM_TAG_STACK_BYTES, 0};
 static struct call read_ = {"rutzebam_read", run_read, RUTZEBAM_READ_STACK_BYTES, 0};
+static struct call write_ = {"rutzebam_write", run_write, RUTZEBAM_WRITE_STACK_BYTES, 0};
 
 static int wrong = 0;
 
@@ -232,9 +240,31 @@ static void read_text(size_t d)
     measure(&read_, RUTZEBAM_BAD_FIRST_LINE);
 }
 
+/* The longest text for t and the secret's length, and the shortest one. */
+static void write_text(void)
+{
+    size_t threshold = t, n = 2 * t + 1;
+    for (size_t k = 0; k < shares_len; k++) shares[k] = 65535;
+    present = (uint32_t)((1u << n) - 1);
+    quorum = 65535;
+    text_len = RUTZEBAM_WRITE_BYTES;
+    measure(&write_, RUTZEBAM_OK);
+    text_len = count;
+    measure(&write_, RUTZEBAM_OK);
+    text_len--;
+    measure(&write_, RUTZEBAM_TEXT_BUFFER_TOO_SHORT);
+    present = 0;
+    measure(&write_, RUTZEBAM_OK);
+    text_len = 0;
+    measure(&write_, RUTZEBAM_TEXT_BUFFER_TOO_SHORT);
+    t = 0;
+    measure(&write_, RUTZEBAM_BAD_THRESHOLD);
+    t = threshold;
+}
+
 int main(void)
 {
-    static struct call *const calls[] = {&deal, &open_, &prune, &decode, &tag, &read_};
+    static struct call *const calls[] = {&deal, &open_, &prune, &decode, &tag, &read_, &write_};
     static const size_t lengths[] = {1, D};
     for (size_t threshold = 1; threshold <= T; threshold++)
         for (size_t k = 0; k < 2; k++) {
@@ -243,6 +273,7 @@ int main(void)
             decode_word(lengths[k]);
             prune_rows();
             read_text(lengths[k]);
+            write_text();
         }
     memset(shares, 0, sizeof shares);
     for (tagged_len = 0; tagged_len <= 64; tagged_len++) measure(&tag, 65520);

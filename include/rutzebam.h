@@ -39,9 +39,9 @@ extern "C" {
 #endif
 
 #define RUTZEBAM_VERSION_MAJOR 1
-#define RUTZEBAM_VERSION_MINOR 0
+#define RUTZEBAM_VERSION_MINOR 1
 #define RUTZEBAM_VERSION_PATCH 0
-#define RUTZEBAM_VERSION "1.0.0"
+#define RUTZEBAM_VERSION "1.1.0"
 
 /* How many words a share has: d share words, n tags and n keys of two words. */
 #define RUTZEBAM_SHARE_WORDS(t, d) ((d) + 3 * (2 * (t) + 1))
@@ -53,17 +53,19 @@ extern "C" {
 #define RUTZEBAM_READ_WORDS 4867
 /* The longest text that rutzebam_read takes, in bytes. */
 #define RUTZEBAM_TEXT_BYTES 40000
+/* The longest text that rutzebam_write writes, in bytes: a buffer of that many is always long enough. */
+#define RUTZEBAM_WRITE_BYTES 29362
 
 /* What a call answers: done, or the first check that fails. docs/RULES.md says what to do about each. */
 #define RUTZEBAM_OK 0
 #define RUTZEBAM_BAD_THRESHOLD 1            /* t is not 1 to 15 */
-#define RUTZEBAM_BAD_SECRET_LENGTH 2        /* the secret's length is not 1 to 64 */
+#define RUTZEBAM_BAD_SECRET_LENGTH 2        /* d, the secret's length, is not 1 to 64 */
 #define RUTZEBAM_BAD_RANDOM_LENGTH 3        /* not RUTZEBAM_RANDOM_WORDS(t, d) random words */
 #define RUTZEBAM_BAD_SHARES_LENGTH 4        /* not RUTZEBAM_SHARES_WORDS(t, d) words to deal into */
 #define RUTZEBAM_BAD_SECRET_WORD 5          /* a secret word above 65520 */
 #define RUTZEBAM_BAD_RANDOM_WORD 6          /* a random word above 65520 */
 #define RUTZEBAM_BAD_ROWS_LENGTH 10         /* not n rows */
-#define RUTZEBAM_BAD_INPUT_LENGTH 11        /* not RUTZEBAM_SHARES_WORDS(t, d) words to open; not n values */
+#define RUTZEBAM_BAD_INPUT_LENGTH 11        /* not RUTZEBAM_SHARES_WORDS(t, d) words to open or write; not n values */
 #define RUTZEBAM_MEMBER_BEYOND_N 12         /* a mask has a member beyond n */
 #define RUTZEBAM_BAD_QUORUM 13              /* the quorum is neither 0 nor t + 1 to n */
 #define RUTZEBAM_QUORUM_NOT_MET 14          /* fewer usable members than the quorum asks for */
@@ -77,6 +79,7 @@ extern "C" {
 #define RUTZEBAM_BAD_LINE 23                /* a further line is no P line */
 #define RUTZEBAM_BAD_LINE_MEMBER 24         /* a P line's member is not 1 to n, or was met before */
 #define RUTZEBAM_BAD_BUFFER_LENGTH 25       /* not RUTZEBAM_READ_WORDS words to read into */
+#define RUTZEBAM_TEXT_BUFFER_TOO_SHORT 31   /* fewer bytes to write into than the text has */
 
 /* How many bytes of stack a call takes at most, with its return address and the arguments on the
    stack, without what memcpy and memset take themselves. In brackets the sum of the frames along the
@@ -88,6 +91,7 @@ extern "C" {
 #define RUTZEBAM_DECODE_STACK_BYTES 1280 /* (1144) */
 #define RUTZEBAM_TAG_STACK_BYTES 256     /* (40) */
 #define RUTZEBAM_READ_STACK_BYTES 768    /* (536) */
+#define RUTZEBAM_WRITE_STACK_BYTES 256   /* (128) */
 /* The most of them. */
 #define RUTZEBAM_STACK_BYTES 1792
 
@@ -135,6 +139,16 @@ uint16_t rutzebam_tag(uint16_t alpha, uint16_t beta, const uint16_t *words, size
 uint16_t rutzebam_read(const uint8_t *text, size_t text_len,
                        uint16_t *words, size_t words_len,
                        size_t *t, size_t *d, uint16_t *quorum, uint32_t *present);
+
+/* Writes hand-in text: t, d and the quorum, then the shares of the present members by rising number.
+   `count` gets its length in bytes, at most RUTZEBAM_WRITE_BYTES; what text has past it stays. Every
+   quorum and every word is written, above 65520 too. rutzebam_read of the first *count bytes gives t,
+   d, quorum and present back, and the shares with zeros for absent members.
+   1: t. 2: d. 11: how many words of shares. 12: a member beyond n is present. 31: text_len is less
+   than the text's length. On a refusal text is unchanged, and *count is 0. */
+uint16_t rutzebam_write(size_t t, size_t d, uint16_t quorum, uint32_t present,
+                        const uint16_t *shares, size_t shares_len,
+                        uint8_t *text, size_t text_len, size_t *count);
 
 #ifdef __cplusplus
 }

@@ -1,4 +1,4 @@
-"""Another implementation of the reader of hand-in text (document 01), with the texts that src/main.rt reads.
+"""Another implementation of the reader and the writer of hand-in text (documents 01 and 02), with what src/main.rt reads and writes.
 
 `python3 model.py stdin` writes the text on standard input, `python3 model.py stdout` what the program must print.
 """
@@ -108,11 +108,58 @@ def shown(text, size=4867):
     return "\t".join(map(str, numbers + [check]))
 
 
+def write(t, d, quorum, present, words, room):
+    """Number, count and buffer; the buffer is full of dots at first."""
+    dots = "." * room
+    n = 2 * t + 1
+    width = d + 3 * n
+    if not 1 <= t <= 15:
+        return 1, 0, dots
+    if not 1 <= d <= 64:
+        return 2, 0, dots
+    if len(words) != n * width:
+        return 11, 0, dots
+    if present >> n:
+        return 12, 0, dots
+    lines = [["D", t, d, quorum]]
+    lines += [["P", i + 1] + words[i * width:(i + 1) * width] for i in range(n) if present >> i & 1]
+    text = "".join("\t".join(map(str, line)) + "\n" for line in lines)
+    if len(text) > room:
+        return 31, 0, dots
+    return 0, len(text), text + dots[len(text):]
+
+
+def written(*given):
+    number, count, buffer = write(*given)
+    return f"{number}\t{count}\n{buffer}"
+
+
+SAMPLE = read(PLAIN + ONE + TWO + THREE, 4867)[5][:30]
+WRITTEN = [
+    (1, 1, 0, 7, SAMPLE, 120),
+    (1, 1, 0, 5, SAMPLE, 120),
+    (1, 1, 2, 0, SAMPLE, 120),
+    (1, 1, 65535, 2, [65535] * 30, 120),
+    (1, 1, 0, 7, SAMPLE, 104),
+    (1, 1, 0, 7, SAMPLE, 103),
+    (1, 1, 0, 7, SAMPLE, 0),
+    (0, 1, 0, 0, SAMPLE, 20),
+    (16, 65, 0, 0, SAMPLE, 20),
+    (1, 0, 0, 0, SAMPLE, 20),
+    (1, 65, 0, 0, [], 20),
+    (1, 1, 0, 8, [0] * 31, 20),
+    (1, 1, 0, 8, SAMPLE, 20),
+    (1, 1, 0, 7, SAMPLE, 20),
+]
+
 if sys.argv[1] == "stdin":
     sys.stdout.write(largest())
 elif sys.argv[1] == "stdout":
     print(shown(largest()))
+    print(written(15, 64, 65535, 2 ** 31 - 1, read(largest(), 4867)[5], 29362))
     print(shown(PLAIN, 4866))
     print(shown("\0" * 40001))
     for text in TEXTS:
         print(shown(text))
+    for given in WRITTEN:
+        print(written(*given))

@@ -9,7 +9,7 @@ use crate::reference::decoding::{Way, decode};
 use crate::reference::program::printed;
 use crate::reference::pruning::prune;
 use crate::reference::sharing::{deal, open, tag};
-use crate::reference::text::read;
+use crate::reference::text::{read, write};
 
 /// What is wrong beside the answer: a lent input changed, or a word beside a buffer.
 pub type Damage = Vec<&'static str>;
@@ -304,6 +304,54 @@ impl Call for Read {
     }
 
     fn number(answer: &ReadAnswer) -> Option<u16> {
+        Some(answer.number)
+    }
+}
+
+#[derive(Clone, Debug)]
+pub struct Write {
+    pub t: usize,
+    pub d: usize,
+    pub quorum: u16,
+    pub present: u32,
+    pub shares: Vec<u16>,
+    pub text: Text,
+    pub count: usize,
+}
+
+#[derive(Clone, Debug, PartialEq, Eq)]
+pub struct Written {
+    pub number: u16,
+    pub text: Text,
+    pub count: usize,
+}
+
+impl Call for Write {
+    type Answer = Written;
+    const NAME: &'static str = "write";
+
+    fn by_reference(&self) -> Written {
+        let mut text = self.text.clone();
+        let (number, count) = write(
+            self.t,
+            self.d,
+            self.quorum,
+            self.present,
+            &self.shares,
+            &mut text.0,
+        );
+        Written {
+            number,
+            text,
+            count,
+        }
+    }
+
+    fn under_test(&self) -> (Written, Damage) {
+        library::write(self)
+    }
+
+    fn number(answer: &Written) -> Option<u16> {
         Some(answer.number)
     }
 }

@@ -2,7 +2,8 @@
 //! buffer as it is after the call. All memory lent stands between guard words.
 
 use crate::calls::{
-    Damage, Deal, Dealt, Decode, Decoded, Open, Opened, Prune, Pruned, Read, ReadAnswer, Tag,
+    Damage, Deal, Dealt, Decode, Decoded, Open, Opened, Prune, Pruned, Read, ReadAnswer, Tag, Text,
+    Write, Written,
 };
 
 unsafe extern "C" {
@@ -45,6 +46,17 @@ unsafe extern "C" {
         d: *mut usize,
         quorum: *mut u16,
         present: *mut u32,
+    ) -> u16;
+    fn rutzebam_write(
+        t: usize,
+        d: usize,
+        quorum: u16,
+        present: u32,
+        shares: *const u16,
+        shares_len: usize,
+        text: *mut u8,
+        text_len: usize,
+        count: *mut usize,
     ) -> u16;
 }
 
@@ -248,6 +260,35 @@ pub fn read(call: &Read) -> (ReadAnswer, Damage) {
     (answer, damage)
 }
 
+pub fn write(call: &Write) -> (Written, Damage) {
+    let mut shares = Lent::new(&call.shares);
+    let mut text = Lent::new(&call.text.0);
+    let mut count = Lent::one(call.count);
+    let number = unsafe {
+        rutzebam_write(
+            call.t,
+            call.d,
+            call.quorum,
+            call.present,
+            shares.pointer(),
+            shares.len(),
+            text.pointer(),
+            text.len(),
+            count.pointer(),
+        )
+    };
+    let mut damage = Damage::new();
+    shares.look_unchanged(&call.shares, "shares", &mut damage);
+    text.look("beside the text", &mut damage);
+    count.look("beside the count", &mut damage);
+    let answer = Written {
+        number,
+        text: Text(text.content().to_vec()),
+        count: count.content()[0],
+    };
+    (answer, damage)
+}
+
 /// The calls without guards and copies, for measuring.
 pub mod plain {
     pub fn deal(t: usize, secret: &[u16], random: &[u16], shares: &mut [u16]) -> u16 {
@@ -305,5 +346,31 @@ pub mod plain {
             )
         };
         (number, present)
+    }
+
+    /// The refusal number and how many bytes were written.
+    pub fn write(
+        t: usize,
+        d: usize,
+        quorum: u16,
+        present: u32,
+        shares: &[u16],
+        text: &mut [u8],
+    ) -> (u16, usize) {
+        let mut count = 0;
+        let number = unsafe {
+            super::rutzebam_write(
+                t,
+                d,
+                quorum,
+                present,
+                shares.as_ptr(),
+                shares.len(),
+                text.as_mut_ptr(),
+                text.len(),
+                &mut count,
+            )
+        };
+        (number, count)
     }
 }

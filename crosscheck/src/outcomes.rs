@@ -1,6 +1,6 @@
 //! The outcomes that a run must have reached.
 
-use crate::cases::orders::{DEAL, DECODE, OPEN, PRUNE};
+use crate::cases::orders::{DEAL, DECODE, OPEN, PRUNE, WRITE};
 use crate::cases::reading::{DAMAGES, ENDS, ORDERS};
 
 const CLASSES: &[&str] = &[
@@ -49,6 +49,22 @@ const CLASSES: &[&str] = &[
     "read: member met before",
     "read: 40000 bytes",
     "read: 40001 bytes",
+    "write: nobody present",
+    "write: some present",
+    "write: everybody present",
+    "write: the longest text",
+    "write: a quorum that opening refuses",
+    "write: quorum 65535",
+    "write: present members above 65520",
+    "write: absent members above 65520",
+    "write: buffer just long enough",
+    "write: bytes past the text",
+    "write: one byte short",
+    "write: an empty buffer",
+    "write: read back",
+    "write: read back and opened",
+    "write: read back and refused by opening",
+    "write: a text read and written again",
 ];
 
 /// What the program must have been given, and what it must have come to.
@@ -80,6 +96,7 @@ const PROGRAM: &[&str] = &[
     "edited text",
     "long text",
     "two faults",
+    "written text",
     "empty",
     "no line end",
     "40000 bytes",
@@ -94,7 +111,7 @@ const PROGRAM: &[&str] = &[
 /// The name of every outcome that must come up at least once.
 pub fn required() -> Vec<String> {
     let mut names: Vec<String> = CLASSES.iter().map(|name| name.to_string()).collect();
-    for order in [&DEAL, &OPEN, &PRUNE, &DECODE] {
+    for order in [&DEAL, &OPEN, &PRUNE, &DECODE, &WRITE] {
         let numbers = [0].iter().chain(order.numbers);
         names.extend(numbers.map(|number| format!("{}: {number}", order.call)));
         names.extend(order.pairs().into_iter().map(|pair| order.outcome(pair)));
@@ -123,6 +140,7 @@ fn sizes() -> Vec<String> {
             "open: 16, t",
             "prune: t",
             "decode: decoded, t",
+            "write: t",
         ] {
             names.push(format!("{class} = {t}"));
         }
@@ -130,6 +148,7 @@ fn sizes() -> Vec<String> {
     for d in 1..=64 {
         names.push(format!("deal: d = {d}"));
         names.push(format!("open: opened, d = {d}"));
+        names.push(format!("write: d = {d}"));
     }
     for surplus in 0..=15 {
         names.push(format!("open: opened, surplus {surplus}"));

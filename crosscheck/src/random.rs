@@ -54,6 +54,11 @@ impl Random {
         (0..count).map(|_| self.word()).collect()
     }
 
+    pub fn bytes(&mut self, count: usize) -> Vec<u8> {
+        let drawn = (0..count.div_ceil(8)).flat_map(|_| self.draw().to_le_bytes());
+        drawn.take(count).collect()
+    }
+
     /// A field word; the ends of the range come up often.
     pub fn field(&mut self) -> u16 {
         match self.below(24) {

@@ -2,6 +2,7 @@
 pub mod Demand2
 pub mod Demand3
 pub mod Examples
+pub mod HandIn
 pub mod Honest
 pub mod Instances
 pub mod Opening

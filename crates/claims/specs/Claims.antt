@@ -2,6 +2,7 @@
 use Rattle.claims.specs.Demands.{Demand2, Demand3}
 use Rattle.claims.specs.Examples.{Examples, Corners}
 use Rattle.claims.specs.General.{Opening, DealtAnywhere}
+use Rattle.claims.specs.HandIn.{ReadsBack, AtMost, AlwaysFits, HandInInstances}
 use Rattle.claims.specs.Instances.{Instances}
 use Rattle.claims.specs.Rules.{Rules}
 
@@ -13,6 +14,11 @@ pub record Claims : Type 0 where
   -- demand 3 for any distinct points
   pub opening : Opening
   pub dealt-anywhere : DealtAnywhere
+  -- what is written as hand-in text is read back; how long it is; why the premises are needed
+  pub reads-back : ReadsBack
+  pub at-most : AtMost
+  pub always-fits : AlwaysFits
+  pub hand-in-instances : HandInInstances
   -- what document 01 says of its rules
   pub rules : Rules
   -- C1 to C14, and the corners

@@ -2,5 +2,6 @@ pub mod Claims
 pub mod Demands
 pub mod Examples
 pub mod General
+pub mod HandIn
 pub mod Instances
 pub mod Rules

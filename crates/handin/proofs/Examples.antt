@@ -3,18 +3,20 @@
 use mathlib.Core.Path.{refl}
 use Rattle.lists.specs.Ascii.{ascii}
 use Rattle.lists.specs.Tabulate.{tab, each, first, concat}
-use Rattle.members.specs.Members.{size, setOf}
-use Rattle.shares.specs.Layout.{width}
+use Rattle.members.specs.Members.{size, bit, has, setOf}
+use Rattle.shares.specs.Layout.{width, word}
 use Rattle.shares.specs.Sample.{sample, keyless}
-use Rattle.text.specs.Lines.{before, parts, decimal, leadsWithZero, isNumeral, numerals, isLetter, numbersOf, lineOf}
+use Rattle.text.specs.Lines.{digits, field, line, before, parts, decimal, leadsWithZero, isNumeral, numerals, isLetter, numbersOf, lineOf}
 use Rattle.handin.specs.Reader.{shareOf, isSome, wordsOr, takeShare, takeNumbers, takeLine, takeLines, unread, placed, readFrom, readNumbers, readLines, read}
 use Rattle.handin.specs.Sample.{lineD, line1, line2, line3, sampleText, keylessText}
+use Rattle.handin.specs.Writer.{shareLine, shareLines, textOf, unwritten, written, write}
 use Rattle.handin.specs.Examples.{Examples}
 
 pub examples : Examples
 unfolding
     before parts decimal leadsWithZero isNumeral numerals isLetter numbersOf lineOf shareOf isSome wordsOr takeShare takeNumbers takeLine takeLines unread
-    placed readFrom readNumbers readLines read lineD line1 line2 line3 sampleText keylessText ascii tab each first concat size setOf width sample keyless
+    placed readFrom readNumbers readLines read digits field line shareLine shareLines textOf unwritten written write lineD line1 line2 line3 sampleText
+    keylessText ascii tab each first concat size bit has setOf width word sample keyless
 examples =
     record {
       c9-read = refl;
@@ -49,4 +51,24 @@ examples =
       bad-word-member-again = refl;
       again-then-junk = refl;
       junk-then-again = refl;
+      sample-written = refl;
+      two-written = refl;
+      nobody-written = refl;
+      two-words = refl;
+      any-quorum = refl;
+      any-word = refl;
+      just-fits = refl;
+      one-short = refl;
+      no-room = refl;
+      write-t-0 = refl;
+      write-t-16 = refl;
+      write-d-0 = refl;
+      write-d-65 = refl;
+      words-29 = refl;
+      words-31 = refl;
+      beyond-n = refl;
+      write-1-before-2 = refl;
+      write-2-before-11 = refl;
+      write-11-before-12 = refl;
+      write-12-before-31 = refl;
     }

@@ -24,7 +24,7 @@ use Rattle.handin.proofs.Placing.{holds-none}
 
 -- each line is taken by itself, after those before it: where it is accepted the next lines follow, where it is refused they do not count
 module _ (t d : ℕ) (taken : List Share) (line rest : List ℕ) where
-  lines-next : (now : List Share) → takeLine t d taken line ≡ shares now → takeLines t d taken (line ∷ parts 10 rest) ≡ takeLines t d now (parts 10 rest)
+  pub lines-next : (now : List Share) → takeLine t d taken line ≡ shares now → takeLines t d taken (line ∷ parts 10 rest) ≡ takeLines t d now (parts 10 rest)
   unfolding takeLines
   lines-next now e = let p = parts-some 10 rest in rw (p .2, takeLines, e)
 
@@ -33,7 +33,7 @@ module _ (t d : ℕ) (taken : List Share) (line rest : List ℕ) where
   lines-refused k e = let p = parts-some 10 rest in rw (p .2, takeLines, e)
 
 -- the text's end, and bytes that no byte 10 ends
-lines-end : (t d : ℕ) (taken : List Share) → takeLines t d taken (parts 10 []) ≡ shares taken
+pub lines-end : (t d : ℕ) (taken : List Share) → takeLines t d taken (parts 10 []) ≡ shares taken
 unfolding takeLines parts
 lines-end t d taken = refl
 

@@ -1,5 +1,5 @@
--- Document 01's sample text as the reader takes it, and corners that it leaves open; those of numerals and of a line's shape alone are
--- in `text`. Proved in proofs/Examples.antt.
+-- Document 01's sample text as the reader takes it and as the writer gives it, and corners; those of numerals and of a line's shape alone
+-- are in `text`. Proved in proofs/Examples.antt.
 use Prim.Native.Nat.{ℕ}
 use Prim.Native.String.{String}
 use mathlib.Core.Path.{_≡_}
@@ -10,6 +10,7 @@ use Rattle.shares.specs.Layout.{capacity}
 use Rattle.shares.specs.Sample.{sample, keyless}
 use Rattle.handin.specs.Reader.{HandIn, unread, read}
 use Rattle.handin.specs.Sample.{lineD, line1, line2, line3, sampleText, keylessText}
+use Rattle.handin.specs.Writer.{HandInText, unwritten, written, write}
 
 -- a text for t = 1 and d = 1 was read: the quorum, the present mask, the 30 words of its three shares
 abbrev pub handedIn : ℕ → ℕ → List ℕ → HandIn
@@ -29,6 +30,17 @@ refuses k text = read text capacity ≡ unread capacity k
 -- a text that begins with the sample's first line
 abbrev pub after : String → List ℕ
 after lines = lineD ++ ascii lines
+
+-- a text for t = 1 and d = 1, written into a buffer of `room` bytes 7
+abbrev pub writes : ℕ → ℕ → List ℕ → ℕ → HandInText
+writes quorum present words room = write 1 1 quorum present words (replicate room 7)
+
+-- such a text, where it is written, and the number where it is not
+abbrev pub wrote : List ℕ → ℕ → HandInText
+wrote text room = written text (replicate room 7)
+
+abbrev pub turnedAway : ℕ → ℕ → HandInText
+turnedAway k room = unwritten (replicate room 7) k
 
 pub record Examples : Type 0 where
   pub c9-read : C9Read
@@ -73,3 +85,30 @@ pub record Examples : Type 0 where
   pub bad-word-member-again : refuses 23 (lineD ++ line1 ++ ascii "P\t1\t0\t0\t0\t0\t0\t0\t0\t0\t0\t00\n")
   pub again-then-junk : refuses 24 (lineD ++ line1 ++ line1 ++ ascii "x\n")
   pub junk-then-again : refuses 23 (lineD ++ line1 ++ ascii "x\n" ++ line1)
+  -- the sample's text is what the writer writes; the bytes past it stay
+  pub sample-written : writes 0 7 (sample 300) 120 ≡ record { number = 0; count = 104; buffer = sampleText ++ replicate 16 7 }
+  pub two-written : writes 0 5 (sample 300) 120 ≡ wrote (lineD ++ line1 ++ line3) 120
+  pub nobody-written : writes 0 0 (sample 300) 8 ≡ wrote lineD 8
+  pub two-words : write 1 2 0 0 (replicate 33 0) (replicate 8 7) ≡ wrote (ascii "D\t1\t2\t0\n") 8
+  -- any quorum is written, and any word; an absent member's words are not looked at
+  pub any-quorum : writes 65535 0 (replicate 30 65535) 20 ≡ wrote (ascii "D\t1\t1\t65535\n") 20
+  pub any-word :
+      writes 1 2 (replicate 10 65535 ++ 65521 ∷ 65535 ∷ 10 ∷ replicate 17 0) 60
+      ≡ wrote (ascii "D\t1\t1\t1\nP\t2\t65521\t65535\t10\t0\t0\t0\t0\t0\t0\t0\n") 60
+  -- just long enough, and one byte short
+  pub just-fits : writes 0 7 (sample 300) 104 ≡ record { number = 0; count = 104; buffer = sampleText }
+  pub one-short : writes 0 7 (sample 300) 103 ≡ turnedAway 31 103
+  pub no-room : writes 0 7 (sample 300) 0 ≡ turnedAway 31 0
+  -- both ends of t and d, a word too few and too many, a member beyond n
+  pub write-t-0 : write 0 1 0 0 [] (replicate 9 7) ≡ turnedAway 1 9
+  pub write-t-16 : write 16 1 0 0 (replicate 3300 0) (replicate 9 7) ≡ turnedAway 1 9
+  pub write-d-0 : write 1 0 0 0 (replicate 27 0) (replicate 9 7) ≡ turnedAway 2 9
+  pub write-d-65 : write 1 65 0 0 (replicate 222 0) (replicate 9 7) ≡ turnedAway 2 9
+  pub words-29 : writes 0 0 (replicate 29 0) 9 ≡ turnedAway 11 9
+  pub words-31 : writes 0 0 (replicate 31 0) 9 ≡ turnedAway 11 9
+  pub beyond-n : writes 0 8 (sample 300) 120 ≡ turnedAway 12 120
+  -- each check before the next
+  pub write-1-before-2 : write 0 0 0 0 [] (replicate 9 7) ≡ turnedAway 1 9
+  pub write-2-before-11 : write 1 65 0 0 [] (replicate 9 7) ≡ turnedAway 2 9
+  pub write-11-before-12 : writes 0 8 [] 9 ≡ turnedAway 11 9
+  pub write-12-before-31 : writes 0 8 (sample 300) 0 ≡ turnedAway 12 0

@@ -3,3 +3,4 @@ pub mod Examples
 pub mod Internal
 pub mod Reader
 pub mod Sample
+pub mod Writer

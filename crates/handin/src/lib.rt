@@ -1,18 +1,24 @@
-// The reader of hand-in text: its lines one after the other, into a buffer of shares.
+// The reader of hand-in text, its lines one after the other into a buffer of shares; and its writer.
 use shares::Shape;
 ghost use mathlib.Core.Path.{_≡_};
+ghost use mathlib.Core.Bool.{cond};
 ghost use mathlib.Core.Option.{some};
-ghost use mathlib.Core.List.{List, []};
-ghost use Prim.Native.Nat.{_+_, _≤_};
+ghost use mathlib.Core.List.{List, [], _∷_};
+ghost use Prim.Native.Nat.{_+_, _≤_, _<_};
 ghost use lib.ListN.{length, replicate};
 ghost use lib.Seq.{sets};
+ghost use Rattle.lists.specs.Ascii.{ascii};
 ghost use Rattle.lists.specs.Checks.{refusal};
+ghost use Rattle.members.specs.Members.{has};
 ghost use Rattle.shares.specs.Layout.{capacity};
-ghost use Rattle.shares.specs.Internal.Shape.{Station};
-ghost use Rattle.text.specs.Lines.{parts};
+ghost use Rattle.shares.specs.Internal.Shape.{Station, Room};
+ghost use Rattle.text.specs.Lines.{parts, line};
+ghost use Rattle.text.specs.Internal.Writing.{Written};
 ghost use Rattle.handin.specs.Reader.{Share, takeNumbers, takeLine, takeLines, unread, readFrom, readNumbers, readLines, read};
+ghost use Rattle.handin.specs.Writer.{shareLine, shareLines, textOf, write};
+ghost use Rattle.handin.specs.Internal.Fitted.{fitted};
 ghost use Rattle.handin.specs.Internal.Progress.{Holds, Comes, cleared};
-ghost use Rattle.handin.specs.Answer.{answerOf};
+ghost use Rattle.handin.specs.Answer.{answerOf, writtenOf};
 
 // The words of a share, at a place of the buffer.
 fn store(share: &[u16], words: &mut [u16], at: usize)
@@ -179,4 +185,133 @@ pub fn read(text: &[u8], words: &mut [u16]) -> Outcome
         },
         Outcome::Refused(k) => refuse(words, k),
     }
+}
+
+// How many bytes the D line has.
+fn first_length(s: Shape, quorum: u16) -> usize
+    requires { ⌜ Station s ⌝ }
+    ensures { λ r. ⌜ r ≡ length (line (ascii "D") (s .t ∷ s .d ∷ quorum ∷ [])) ⌝ }
+{
+    let rest = [s.d as u16, quorum];
+    text::list_length(b"D", s.t as u16, &rest)
+}
+
+// The D line, at the front.
+fn put_first(s: Shape, quorum: u16, text: &mut [u8]) -> usize
+    requires { ⌜ Station s ⌝ }
+    requires { ⌜ length (line (ascii "D") (s .t ∷ s .d ∷ quorum ∷ [])) ≤ length (now text) ⌝ }
+    ensures { λ r. ⌜ Written (now (text .entry)) 0 (line (ascii "D") (s .t ∷ s .d ∷ quorum ∷ [])) (now (text .exit)) r ⌝ }
+{
+    let rest = [s.d as u16, quorum];
+    text::put_list(b"D", s.t as u16, &rest, text, 0)
+}
+
+// How many bytes member i's P line has, if it is present.
+fn share_length(s: Shape, present: u32, i: usize, shares: &[u16]) -> usize
+    requires { ⌜ Room s (now shares) ⌝ }
+    requires { ⌜ i < s .n ⌝ }
+    ensures { λ r. ⌜ r ≡ length (cond (has present i) (shareLine (s .t) (s .d) (now (shares .entry)) i) []) ⌝ }
+{
+    if !members::has(present, i) {
+        return 0;
+    }
+    let from = shares::share_at(s, i);
+    text::list_length(b"P", (i + 1) as u16, &shares[from..from + s.width])
+}
+
+// Member i's P line, if it is present.
+fn put_share(s: Shape, present: u32, i: usize, shares: &[u16], text: &mut [u8], at: usize) -> usize
+    requires { ⌜ Room s (now shares) ⌝ }
+    requires { ⌜ (i < s .n) × (at + length (cond (has present i) (shareLine (s .t) (s .d) (now shares) i) []) ≤ length (now text)) ⌝ }
+    ensures { λ r. ⌜ Written (now (text .entry)) at (cond (has present i) (shareLine (s .t) (s .d) (now (shares .entry)) i) []) (now (text .exit)) r ⌝ }
+{
+    if !members::has(present, i) {
+        return at;
+    }
+    let from = shares::share_at(s, i);
+    let share = &shares[from..from + s.width];
+    let number = (i + 1) as u16;
+    text::put_list(b"P", number, share, text, at)
+}
+
+// How many bytes the P lines of the present members have.
+fn shares_length(s: Shape, present: u32, shares: &[u16]) -> usize
+    requires { ⌜ Room s (now shares) ⌝ }
+    ensures { λ r. ⌜ r ≡ length (shareLines (s .t) (s .d) present (now (shares .entry)) (s .n)) ⌝ }
+{
+    let mut count = 0;
+    let mut i = 0;
+    while i < s.n {
+        count += share_length(s, present, i, shares);
+        i += 1;
+    }
+    count
+}
+
+// The P lines of the present members, by rising number.
+fn put_shares(s: Shape, present: u32, shares: &[u16], text: &mut [u8], at: usize) -> usize
+    requires { ⌜ Room s (now shares) ⌝ }
+    requires { ⌜ at + length (shareLines (s .t) (s .d) present (now shares) (s .n)) ≤ length (now text) ⌝ }
+    ensures { λ r. ⌜ Written (now (text .entry)) at (shareLines (s .t) (s .d) present (now (shares .entry)) (s .n)) (now (text .exit)) r ⌝ }
+{
+    let mut end = at;
+    let mut i = 0;
+    while i < s.n {
+        end = put_share(s, present, i, shares, text, end);
+        i += 1;
+    }
+    end
+}
+
+// How many bytes the text has.
+fn text_length(s: Shape, quorum: u16, present: u32, shares: &[u16]) -> usize
+    requires { ⌜ Room s (now shares) ⌝ }
+    ensures { λ r. ⌜ r ≡ length (textOf (s .t) (s .d) quorum present (now (shares .entry))) ⌝ }
+{
+    first_length(s, quorum) + shares_length(s, present, shares)
+}
+
+// How many bytes were written, or a refusal's number.
+pub enum Wrote {
+    Bytes(usize),
+    Refused(u16),
+}
+
+// The text, where it fits; its length is known before the first byte is written.
+fn write_text(s: Shape, quorum: u16, present: u32, shares: &[u16], text: &mut [u8]) -> Wrote
+    requires { ⌜ Room s (now shares) ⌝ }
+    ensures { λ r. ⌜ writtenOf r (now (text .exit)) ≡ fitted (textOf (s .t) (s .d) quorum present (now (shares .entry))) (now (text .entry)) ⌝ }
+{
+    if text.len() < text_length(s, quorum, present, shares) {
+        return Wrote::Refused(31);
+    }
+    let at = put_first(s, quorum, text);
+    Wrote::Bytes(put_shares(s, present, shares, text, at))
+}
+
+// Writes hand-in text at the front of a buffer: the D line, then a P line for each present member. The bytes past the text stay.
+pub fn write(
+    t: usize,
+    d: usize,
+    quorum: u16,
+    present: u32,
+    shares: &[u16],
+    text: &mut [u8],
+) -> Wrote
+    ensures { λ r. ⌜ writtenOf r (now (text .exit)) ≡ write t d quorum present (now (shares .entry)) (now (text .entry)) ⌝ }
+{
+    if !members::threshold(t) {
+        return Wrote::Refused(1);
+    }
+    if !lists::within(1, 64, d) {
+        return Wrote::Refused(2);
+    }
+    let s = shares::shape_of(t, d);
+    if shares.len() != s.n * s.width {
+        return Wrote::Refused(11);
+    }
+    if members::first(s.n) < present {
+        return Wrote::Refused(12);
+    }
+    write_text(s, quorum, present, shares, text)
 }

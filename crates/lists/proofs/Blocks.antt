@@ -3,7 +3,7 @@
 use mathlib.Core.Path.{_≡_, refl, sym, ap, ap₂, _∙_}
 use mathlib.Core.Bool.{Bool, true}
 use mathlib.Core.List.{List, [], _∷_, _++_, append-assoc, append-nil}
-use Prim.Native.Nat.{ℕ, zero, suc, _+_, _*_, _<_, zero-le, suc-le-suc}
+use Prim.Native.Nat.{ℕ, zero, suc, _+_, _*_, _≤_, _<_, zero-le, suc-le-suc}
 use native.Mathlib.Nat.{not-suc-le-zero, le-of-suc-le-suc, zero-mul, suc-mul, add-comm, add-assoc}
 use native.Mathlib.Omega.{arith}
 use lib.ListN.{length, getD, length-append, List·getD-append}
@@ -29,6 +29,15 @@ module _ {A : Type 0} where
   concat-more (suc n) f =
       ap (λ (l : List A). f 0 ++ l) (concat-more n (λ i. f (suc i)))
       ∙ sym (append-assoc (f 0) (concat (tab n (λ i. f (suc i)))) (f (suc n)))
+
+  -- the first k of n lists are no longer than all of them
+  pub concat-le : (k n : ℕ) (f : ℕ → List A) → k ≤ n → length (concat (tab k f)) ≤ length (concat (tab n f))
+  unfolding tab concat
+  concat-le zero n f h = zero-le
+  concat-le (suc k) zero f h = absurd (not-suc-le-zero h)
+  concat-le (suc k) (suc n) f h =
+      let rest = concat-le k n (λ i. f (suc i)) (le-of-suc-le-suc h) in
+      omega (arith, rest, length-append (f 0) (concat (tab k (λ i. f (suc i)))), length-append (f 0) (concat (tab n (λ i. f (suc i)))))
 
   -- n lists of w elements
   pub length-concat : (n w : ℕ) (f : ℕ → List A) → ((i : ℕ) → i < n → length (f i) ≡ w) → length (concat (tab n f)) ≡ n * w

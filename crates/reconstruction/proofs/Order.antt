@@ -4,18 +4,17 @@ use mathlib.Core.Path.{_≡_, sym, ap, _∙_, subst}
 use mathlib.Core.Bool.{Bool, true, false, not}
 use mathlib.Core.List.{List}
 use Prim.Native.Nat.{ℕ, _*_, _≤_, _<_, _^_}
-use native.Mathlib.Omega.{arith}
-use lib.Dec.{leb}
+use lib.Dec.{eqb}
 use lib.ListN.{length}
-use borrow.Author.Tests.{eq-eqb, ne-eqb, le-leb, lt-leb, ltb-true}
+use borrow.Author.Tests.{eqb-true, ltb-true}
 use Rattle.lists.specs.Checks.{within}
 use Rattle.lists.proofs.Bools.{fails, passes}
 use Rattle.members.specs.Members.{isThreshold, size, isSet, firstOf}
-use Rattle.members.proofs.Words.{firstOf-isSet, size-le}
 use Rattle.shares.specs.Layout.{width}
 use Rattle.shares.specs.Internal.Shape.{InRange, shapeOf, Station}
 use Rattle.shares.specs.declared.Shape.{Shape}
 use Rattle.shares.proofs.Shapes.{in-range, station}
+use Rattle.shares.proofs.Tests.{wrong-length, right-length, beyond-n, within-n}
 use Rattle.reconstruction.specs.Reconstruction.{Opened, unopened, isQuorum, reconstruct}
 use Rattle.reconstruction.specs.Internal.Steps.{byShares}
 use Rattle.reconstruction.proofs.Opening.{reconstruct-finishes}
@@ -51,29 +50,24 @@ module _ (t d present quorum : ℕ) (words : List ℕ) (b1 : Bool) (e1 : b1 ≡ 
       in-length : within 1 64 d ≡ true
       in-length = passes b2 (within 1 64 d) e2 y2
 
-      all-words : s .n * s .width ≡ size t * width t d
-      all-words = ap (λ (z : Shape). z .n * z .width) es
-
       pub refused-11 : (length words ≡ s .n * s .width → ⊥) → (answer : Opened) → answer ≡ unopened d 0 11 → answer ≡ opened
       unfolding reconstruct
-      refused-11 h answer e = e ∙ sym (rw (threshold, in-length, ne-eqb (length words) (size t * width t d) (λ q. h (q ∙ sym all-words))))
+      refused-11 h answer e = e ∙ sym (rw (threshold, in-length, wrong-length t d s es words h))
 
       module _ (long : length words ≡ s .n * s .width) (f : ℕ) (ef : f ≡ firstOf (s .n)) where
-        as-long : length words ≡ size t * width t d
-        as-long = long ∙ all-words
+        as-long : eqb (length words) (size t * width t d) ≡ true
+        as-long = right-length t d s es words long
 
-        tested : leb present f ≡ isSet (size t) present
-        tested =
-            ap (leb present) (ef ∙ ap (λ (z : Shape). firstOf (z .n)) es) ∙ firstOf-isSet (size t) present (omega (arith, size-le t threshold))
+        range : InRange t d
+        range = in-range t d threshold in-length
 
         pub refused-12 : f < present → (answer : Opened) → answer ≡ unopened d 0 12 → answer ≡ opened
         unfolding reconstruct
-        refused-12 h answer e =
-            e ∙ sym (rw (threshold, in-length, eq-eqb (length words) (size t * width t d) as-long, sym tested ∙ lt-leb present f h))
+        refused-12 h answer e = e ∙ sym (rw (threshold, in-length, as-long, beyond-n t d s es range present f ef h))
 
         module _ (le : present ≤ f) (b3 : Bool) (e3 : b3 ≡ isQuorum (s .t) quorum) where
           is-set : isSet (size t) present ≡ true
-          is-set = sym tested ∙ le-leb present f le
+          is-set = within-n t d s es range present f ef le
 
           asked : b3 ≡ isQuorum t quorum
           asked = e3 ∙ ap (λ (z : Shape). isQuorum (z .t) quorum) es
@@ -81,11 +75,11 @@ module _ (t d present quorum : ℕ) (words : List ℕ) (b1 : Bool) (e1 : b1 ≡ 
           pub refused-13 : not b3 ≡ true → (answer : Opened) → answer ≡ unopened d 0 13 → answer ≡ opened
           unfolding reconstruct
           refused-13 h answer e =
-              e ∙ sym (rw (threshold, in-length, eq-eqb (length words) (size t * width t d) as-long, is-set, fails b3 (isQuorum t quorum) asked h))
+              e ∙ sym (rw (threshold, in-length, as-long, is-set, fails b3 (isQuorum t quorum) asked h))
 
           pub goes-on : not b3 ≡ false → (answer : Opened) → answer ≡ byShares s present quorum words → answer ≡ opened
           goes-on h answer e =
               e
               ∙ ap (λ (z : Shape). byShares z present quorum words) es
-              ∙ sym (reconstruct-finishes t d present quorum words threshold in-length as-long (ltb-true present (2 ^ size t) is-set)
+              ∙ sym (reconstruct-finishes t d present quorum words threshold in-length (eqb-true (length words) (size t * width t d) as-long) (ltb-true present (2 ^ size t) is-set)
               (passes b3 (isQuorum t quorum) asked h))

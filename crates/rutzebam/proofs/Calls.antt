@@ -24,11 +24,15 @@ use Rattle.reconstruction.specs.declared.Outcome as reconstruction-outcome
 use Rattle.reconstruction.specs.declared.Outcome.the-variants as reconstruction-case
 use Rattle.reconstruction.proofs.Numbers.{opened-fits}
 use Rattle.handin.specs.Reader.{read}
+use Rattle.handin.specs.Writer.{write}
 use Rattle.handin.specs.Answer as handin
 use Rattle.handin.specs.declared.Outcome as handin-outcome
 use Rattle.handin.specs.declared.Outcome.the-variants as handin-case
+use Rattle.handin.specs.declared.Wrote.{Wrote}
+use Rattle.handin.specs.declared.Wrote.the-variants as wrote
 use Rattle.handin.proofs.Sound.{sound}
-use Rattle.rutzebam.specs.Calls.{dealt, opened, pruned, decoded, handIn}
+use Rattle.handin.proofs.WriterChecks.{written-fits}
+use Rattle.rutzebam.specs.Calls.{dealt, opened, pruned, decoded, handIn, handInText}
 use Rattle.rutzebam.proofs.Numbers.{refused-as}
 
 module _ (t : ℕ) (secret random buffer shares : List ℕ) {r : dealing-outcome.Outcome} (answers : dealing.answerOf r shares ≡ deal t secret random buffer) where
@@ -76,3 +80,14 @@ module _ (text : List ℕ) (len : ℕ) (words : List ℕ) {r : handin-outcome.Ou
   read-refuses k e =
       refused-as (λ a. a .number) (λ n. handIn n 0 0 0 0 words) (λ n. refl) k (read text len) (sound len text .fits)
       (ap (λ (o : handin-outcome.Outcome). handin.answerOf o words) (sym e) ∙ answers)
+
+module _ (t d quorum present : ℕ) (words before after : List ℕ) {r : Wrote} (answers : handin.writtenOf r after ≡ write t d quorum present words before) where
+  pub writes : (count : ℕ) → r ≡ wrote.Bytes count → handInText 0 count after ≡ write t d quorum present words before
+  unfolding handin.writtenOf
+  writes count e = ap (λ (o : Wrote). handin.writtenOf o after) (sym e) ∙ answers
+
+  pub write-refuses : (k : ℕ) → r ≡ wrote.Refused k → handInText k 0 after ≡ write t d quorum present words before
+  unfolding handin.writtenOf
+  write-refuses k e =
+      refused-as (λ a. a .number) (λ n. handInText n 0 after) (λ n. refl) k (write t d quorum present words before)
+      (written-fits t d quorum present words before) (ap (λ (o : Wrote). handin.writtenOf o after) (sym e) ∙ answers)

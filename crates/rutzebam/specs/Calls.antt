@@ -1,4 +1,4 @@
--- What a caller in C finds after a call, as the answers of the definitions: the number that is returned (document 01's, 0 when it is
+-- What a caller in C finds after a call, as the answers of the definitions: the number that is returned (the rules', 0 when it is
 -- done) and what stands in each lent place.
 -- Assumes nothing.
 use Prim.Native.Nat.{ℕ}
@@ -8,6 +8,7 @@ use Rattle.decoding.specs.Decoding.{Decoded}
 use Rattle.dealing.specs.Dealing.{Dealt}
 use Rattle.reconstruction.specs.Reconstruction.{Opened}
 use Rattle.handin.specs.Reader.{HandIn}
+use Rattle.handin.specs.Writer.{HandInText}
 
 abbrev pub dealt : ℕ → List ℕ → Dealt
 dealt number shares = record { number = number; shares = shares }
@@ -24,3 +25,6 @@ decoded number coefficients = record { number = number; coefficients = coefficie
 abbrev pub handIn : ℕ → ℕ → ℕ → ℕ → ℕ → List ℕ → HandIn
 handIn number t d quorum present words =
     record { number = number; t = t; d = d; quorum = quorum; present = present; words = words }
+
+abbrev pub handInText : ℕ → ℕ → List ℕ → HandInText
+handInText number count buffer = record { number = number; count = count; buffer = buffer }

@@ -1,5 +1,5 @@
 // The calls for programs in C and Rust, declared in include/rutzebam.h. Each has the contract of the call it makes: the number
-// that is returned is document 01's, 0 when it is done, and masks and numbers are stored in lent places.
+// that is returned is that of the rules, 0 when it is done, and masks and numbers are stored in lent places.
 ghost use mathlib.Core.Path.{_≡_};
 ghost use lib.ListN.{length};
 ghost use Rattle.mac.specs.Tag.{tag as tagOf};
@@ -8,7 +8,8 @@ ghost use Rattle.decoding.specs.Decoding.{decode};
 ghost use Rattle.dealing.specs.Dealing.{deal};
 ghost use Rattle.reconstruction.specs.Reconstruction.{reconstruct};
 ghost use Rattle.handin.specs.Reader.{read};
-ghost use Rattle.rutzebam.specs.Calls.{dealt, opened, pruned, decoded, handIn};
+ghost use Rattle.handin.specs.Writer.{write};
+ghost use Rattle.rutzebam.specs.Calls.{dealt, opened, pruned, decoded, handIn, handInText};
 
 // Dealing.
 #[no_mangle]
@@ -125,6 +126,31 @@ pub extern "C" fn rutzebam_read(
             *d = 0;
             *quorum = 0;
             *present = 0;
+            number
+        }
+    }
+}
+
+// The writer of hand-in text.
+#[no_mangle]
+pub extern "C" fn rutzebam_write(
+    t: usize,
+    d: usize,
+    quorum: u16,
+    present: u32,
+    shares: &[u16],
+    text: &mut [u8],
+    count: &mut usize,
+) -> u16
+    ensures { λ r. ⌜ handInText r (now (count .exit)) (now (text .exit)) ≡ write t d quorum present (now (shares .entry)) (now (text .entry)) ⌝ }
+{
+    match handin::write(t, d, quorum, present, shares, text) {
+        handin::Wrote::Bytes(length) => {
+            *count = length;
+            0
+        }
+        handin::Wrote::Refused(number) => {
+            *count = 0;
             number
         }
     }

@@ -6,3 +6,4 @@ pub mod Reading
 pub mod Same
 pub mod Shapes
 pub mod Storing
+pub mod Tests

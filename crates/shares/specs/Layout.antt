@@ -38,6 +38,10 @@ capacity = 4867
 unfoldable pub word : ℕ → ℕ → List ℕ → ℕ → ℕ → ℕ
 word t d words i k = getD words (i * width t d + k) 0
 
+-- member i's whole share
+abbrev pub share : ℕ → ℕ → List ℕ → ℕ → List ℕ
+share t d words i = tab (width t d) (word t d words i)
+
 -- member i's share word k, and all its share words
 abbrev pub shareWord : ℕ → ℕ → List ℕ → ℕ → ℕ → ℕ
 shareWord t d words i k = word t d words i (wordPlace k)

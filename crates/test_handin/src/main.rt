@@ -1,7 +1,8 @@
-// Reads hand-in texts and prints for each the number, t, d, the quorum, the present mask and a checksum of the buffer.
-// The file stdout beside this folder is what another implementation answers, model.py.
+// Reads hand-in texts and prints for each the number, t, d, the quorum, the present mask and a checksum of the buffer; then writes texts and
+// prints for each the number, the count and the buffer. The file stdout beside this folder is what another implementation answers, model.py.
 ghost use Prim.Native.Nat.{_<_};
 use handin::Outcome;
+use handin::Wrote;
 use libc::STDOUT_FILENO;
 
 fn wide(word: u16) -> u64
@@ -155,13 +156,108 @@ fn other_members(words: &mut [u16]) {
     );
 }
 
+fn show_text(number: u16, count: usize, text: &[u8]) {
+    print(number as u64, 9);
+    print(count as u64, 10);
+    io::write_all(STDOUT_FILENO, text);
+    io::write_all(STDOUT_FILENO, &[10]);
+}
+
+fn writes(t: usize, d: usize, quorum: u16, present: u32, shares: &[u16], text: &mut [u8]) {
+    match handin::write(t, d, quorum, present, shares, text) {
+        Wrote::Bytes(count) => show_text(0, count, text),
+        Wrote::Refused(k) => show_text(k, 0, text),
+    }
+}
+
+// A text for t = 1 and d = 1, into 120 bytes.
+fn writes_sample(quorum: u16, present: u32, shares: &[u16]) {
+    let mut text = [46u8; 120];
+    writes(1, 1, quorum, present, shares, &mut text);
+}
+
+// Texts that are written: the document's sample, without member 2, nobody, any quorum and words.
+fn written(shares: &[u16]) {
+    writes_sample(0, 7, shares);
+    writes_sample(0, 5, shares);
+    writes_sample(2, 0, shares);
+    writes_sample(65535, 2, &[65535u16; 30]);
+}
+
+// A buffer just long enough, one byte short, and empty.
+fn rooms(shares: &[u16]) {
+    let mut enough = [46u8; 104];
+    writes(1, 1, 0, 7, shares, &mut enough);
+    let mut short = [46u8; 103];
+    writes(1, 1, 0, 7, shares, &mut short);
+    writes(1, 1, 0, 7, shares, &mut []);
+}
+
+// Each refusal, alone and before the next.
+fn refusals(shares: &[u16]) {
+    let mut text = [46u8; 20];
+    writes(0, 1, 0, 0, shares, &mut text);
+    writes(16, 65, 0, 0, shares, &mut text);
+    writes(1, 0, 0, 0, shares, &mut text);
+    writes(1, 65, 0, 0, &[], &mut text);
+    writes(1, 1, 0, 8, &[0u16; 31], &mut text);
+    writes(1, 1, 0, 8, shares, &mut text);
+    writes(1, 1, 0, 7, shares, &mut text);
+}
+
+// The shares that the first text had, by rising member.
+fn writes_largest(words: &[u16]) {
+    let mut text = [46u8; 29362];
+    writes(15, 64, 65535, 2147483647, words, &mut text);
+}
+
+fn writer() {
+    let sample = [
+        253u16,
+        254,
+        507,
+        760,
+        1,
+        1,
+        1,
+        2,
+        1,
+        3,
+        256,
+        258,
+        514,
+        770,
+        2,
+        1,
+        2,
+        2,
+        2,
+        3,
+        300,
+        262,
+        521,
+        780,
+        3,
+        1,
+        3,
+        2,
+        3,
+        3,
+    ];
+    written(&sample);
+    rooms(&sample);
+    refusals(&sample);
+}
+
 fn main() {
     let mut words = [7u16; 4867];
     largest(&mut words);
+    writes_largest(&words);
     lengths(&mut words);
     samples(&mut words);
     first_lines(&mut words);
     first_fields(&mut words);
     other_lines(&mut words);
     other_members(&mut words);
+    writer();
 }

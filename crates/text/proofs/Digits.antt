@@ -19,16 +19,16 @@ use Rattle.text.specs.Lines.{digits}
 abbrev ending : Bool → List ℕ → ℕ → List ℕ
 ending last before n = elim last [ true ↦ (48 + n) ∷ [] | false ↦ before ++ ((48 + n % 10) ∷ []) ]
 
-single : (f n : ℕ) → n < 10 → digits (suc f) n ≡ (48 + n) ∷ []
+pub single : (f n : ℕ) → n < 10 → digits (suc f) n ≡ (48 + n) ∷ []
 unfolding digits
 single f n h = ap (λ (b : Bool). ending b (digits f (n / 10)) n) (lt-ltb n 10 h)
 
-several : (f n : ℕ) → 10 ≤ n → digits (suc f) n ≡ digits f (n / 10) ++ ((48 + n % 10) ∷ [])
+pub several : (f n : ℕ) → 10 ≤ n → digits (suc f) n ≡ digits f (n / 10) ++ ((48 + n % 10) ∷ [])
 unfolding digits
 several f n h = ap (λ (b : Bool). ending b (digits f (n / 10)) n) (le-ltb n 10 h)
 
 -- a tenth of a number has a digit less
-tenth : (k n : ℕ) → n < 10 ^ suc k → n / 10 < 10 ^ k
+pub tenth : (k n : ℕ) → n < 10 ^ suc k → n / 10 < 10 ^ k
 tenth k n h = div-lt-iff-lt-mul (suc-le-suc zero-le) .1 (rw pow-suc at h)
 
 -- with the most digits one more, nothing changes
@@ -63,7 +63,7 @@ pub at-most-ten : (n : ℕ) → n < 4294967296 → length (digits 10 n) ≤ 10
 at-most-ten n fits = let h : n < 10 ^ 10 = omega arith in digits-most 9 10 n h
 
 -- there is a digit
-has-digit : (n : ℕ) → n < 4294967296 → 1 ≤ length (digits 10 n)
+pub has-digit : (n : ℕ) → n < 4294967296 → 1 ≤ length (digits 10 n)
 has-digit n fits = elim (test (ltb n 10)) [
   | inl e ↦ rw (digits-one n (ltb-true n 10 e)) (omega arith)
   | inr e ↦ omega (arith, one-more n (ltb-false n 10 e) fits)

@@ -50,7 +50,7 @@ some-or-none : (o : Option (List ℕ)) → (o ≡ none) ⊎ ((ns : List ℕ) × 
 some-or-none none = inl refl
 some-or-none (some ns) = inr (ns, refl)
 
-numerals-good : (f : List ℕ) (fs : List (List ℕ)) → isNumeral f ≡ true → numerals (f ∷ fs) ≡ joined (decimal 0 f ∷ []) (numerals fs)
+pub numerals-good : (f : List ℕ) (fs : List (List ℕ)) → isNumeral f ≡ true → numerals (f ∷ fs) ≡ joined (decimal 0 f ∷ []) (numerals fs)
 unfolding numerals joined
 numerals-good f fs e = elim (some-or-none (numerals fs)) [
   | inl n ↦ rw (e, n)

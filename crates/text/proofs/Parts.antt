@@ -30,7 +30,7 @@ parts-some sep (b ∷ bs) = elim (test (eqb b sep)) [
 ]
 
 -- bytes without a separator are one part
-parts-last : (sep : ℕ) (xs : List ℕ) → free sep xs ≡ true → parts sep xs ≡ xs ∷ []
+pub parts-last : (sep : ℕ) (xs : List ℕ) → free sep xs ≡ true → parts sep xs ≡ xs ∷ []
 unfolding parts before free each
 parts-last sep [] h = refl
 parts-last sep (b ∷ bs) h =
@@ -38,7 +38,7 @@ parts-last sep (b ∷ bs) h =
     rw (e, parts-last sep bs (and-right (not (eqb b sep)) (free sep bs) h))
 
 -- a part ends at the first separator
-parts-next : (sep : ℕ) (xs ys : List ℕ) → free sep xs ≡ true → parts sep (xs ++ sep ∷ ys) ≡ xs ∷ parts sep ys
+pub parts-next : (sep : ℕ) (xs ys : List ℕ) → free sep xs ≡ true → parts sep (xs ++ sep ∷ ys) ≡ xs ∷ parts sep ys
 unfolding parts before free each
 parts-next sep [] ys h = rw (eq-eqb sep sep refl)
 parts-next sep (b ∷ bs) ys h =

@@ -1,15 +1,17 @@
 -- Laws of fields and lines as they are printed: how long they are, and how they are written.
 -- Assumes nothing.
-use mathlib.Core.Path.{_≡_, refl, ap, _∙_}
-use mathlib.Core.List.{List, [], _∷_, _++_, append-assoc}
-use Prim.Native.Nat.{ℕ, suc, _+_, _^_, _≤_, _<_}
+use mathlib.Core.Path.{_≡_, refl}
+use mathlib.Core.List.{List, [], _∷_, map}
+use Prim.Native.Nat.{ℕ, suc, _+_, _*_, _^_, _≤_, _<_}
+use native.Mathlib.Nat.{mul-suc}
 use native.Mathlib.Omega.{arith}
 use lib.ListN.{length, set, length-append}
 use Rattle.lists.specs.Tabulate.{concat}
+use Rattle.lists.proofs.Every.{Every, none, more}
 use Rattle.text.specs.Lines.{digits, field, line}
 use Rattle.text.specs.Internal.Writing.{Written}
 use Rattle.text.proofs.Digits.{digits-most, at-most-ten}
-use Rattle.text.proofs.Writing.{written-one, written-then}
+use Rattle.text.proofs.Writing.{written-none, written-one, written-then}
 
 pub length-field : (n : ℕ) → length (field n) ≡ suc (length (digits 10 n))
 unfolding field
@@ -19,21 +21,41 @@ length-field n = refl
 pub field-most : (k n : ℕ) → n < 10 ^ suc k → length (field n) ≤ k + 2
 field-most k n h = omega (arith, length-field n, digits-most k 10 n h)
 
+-- fields of such numbers
+pub fields-most : (k : ℕ) (ns : List ℕ) → Every (λ n. n < 10 ^ suc k) ns → length (concat (map field ns)) ≤ (k + 2) * length ns
+unfolding concat
+fields-most k [] none = omega arith
+fields-most k (n ∷ ns) (more h e) =
+    omega (arith, length-append (field n) (concat (map field ns)), field-most k n h, fields-most k ns e, mul-suc (k + 2) (length ns))
+
 -- any number
 pub field-short : (n : ℕ) → n < 4294967296 → length (field n) ≤ 11
 field-short n h = omega (arith, length-field n, at-most-ten n h)
 
--- a line as the code writes it, piece after piece
-line-pieces : (word : List ℕ) (a b : ℕ) → line word (a ∷ b ∷ []) ≡ ((word ++ field a) ++ field b) ++ (10 ∷ [])
-unfolding line concat
-line-pieces word a b = simp append-assoc
+-- a line of any numbers
+pub length-list : (word ns : List ℕ) → length (line word ns) ≡ length word + length (concat (map field ns)) + 1
+unfolding line
+length-list word ns = simp length-append
+
+-- its first number apart
+pub length-from : (word : List ℕ) (n : ℕ) (ns : List ℕ)
+    → length (line word (n ∷ ns)) ≡ length word + length (field n) + length (concat (map field ns)) + 1
+unfolding concat
+length-from word n ns = omega (arith, length-list word (n ∷ ns), length-append (field n) (concat (map field ns)))
 
 pub length-line : (word : List ℕ) (a b : ℕ) → length (line word (a ∷ b ∷ [])) ≡ length word + length (field a) + length (field b) + 1
-length-line word a b = ap length (line-pieces word a b) ∙ simp length-append
+unfolding concat
+length-line word a b = omega (arith, length-from word a (b ∷ []), length-append (field b) [])
 
--- a line is written by its pieces
+-- a line is written by its word, the field of its first number, the fields of the others, and its byte 10
+pub written-list : {l m₁ m₂ m₃ word : List ℕ} {at e₁ e₂ e₃ : ℕ} (n : ℕ) (ns : List ℕ)
+    → Written l at word m₁ e₁ → Written m₁ e₁ (field n) m₂ e₂ → Written m₂ e₂ (concat (map field ns)) m₃ e₃
+    → e₃ < length m₃ → Written l at (line word (n ∷ ns)) (set m₃ e₃ 10) (e₃ + 1)
+unfolding line concat
+written-list {m₃ = m₃} {e₃ = e₃} n ns p q r h = written-then (written-then p (written-then q r)) (written-one m₃ e₃ 10 h)
+
 pub written-line : {l m₁ m₂ m₃ word : List ℕ} {at e₁ e₂ e₃ : ℕ} (a b : ℕ)
     → Written l at word m₁ e₁ → Written m₁ e₁ (field a) m₂ e₂ → Written m₂ e₂ (field b) m₃ e₃
     → e₃ < length m₃ → Written l at (line word (a ∷ b ∷ [])) (set m₃ e₃ 10) (e₃ + 1)
-written-line {m₃ = m₃} {word = word} {e₃ = e₃} a b p q r h =
-    rw (line-pieces word a b) (written-then (written-then (written-then p q) r) (written-one m₃ e₃ 10 h))
+unfolding concat
+written-line {m₃ = m₃} {e₃ = e₃} a b p q r h = written-list a (b ∷ []) p q (written-then r (written-none m₃ e₃ (omega arith))) h

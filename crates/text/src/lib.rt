@@ -2,10 +2,11 @@
 ghost use mathlib.Core.Path.{_≡_};
 ghost use mathlib.Core.Bool.{cond};
 ghost use mathlib.Core.Option.{some, none};
-ghost use mathlib.Core.List.{[], _∷_};
-ghost use Prim.Native.Nat.{_+_, _≤_};
+ghost use mathlib.Core.List.{[], _∷_, map};
+ghost use Prim.Native.Nat.{_+_, _*_, _≤_};
 ghost use lib.Dec.{eqb};
 ghost use lib.ListN.{length};
+ghost use Rattle.lists.specs.Tabulate.{concat};
 ghost use Rattle.text.specs.Lines.{isDigit, lineOf, digits, field, line};
 ghost use Rattle.text.specs.Internal.Scanning.{after, FirstEnds, numbersIn};
 ghost use Rattle.text.specs.Internal.Steps.{kindOf, Marks, digitsFrom, numeralOf, NextField};
@@ -177,9 +178,9 @@ fn count_digits(n: u32) -> usize
     ensures { λ r. ⌜ r ≡ length (digits 10 n) ⌝ }
 {
     let mut count = 1;
-    let mut rest = n;
-    while 9 < rest {
-        rest = rest / 10;
+    let mut left = n;
+    while 9 < left {
+        left = left / 10;
         count += 1;
     }
     count
@@ -232,6 +233,55 @@ pub fn put_line(word: &[u8], a: u32, b: u32, output: &mut [u8], at: usize) -> us
     let first = put_bytes(word, output, at);
     let second = put_field(a, output, first);
     let end = put_field(b, output, second);
+    output[end] = 10;
+    end + 1
+}
+
+// How many bytes the fields of numbers have.
+fn fields_length(numbers: &[u16]) -> usize
+    requires { ⌜ length (now numbers) ≤ 65535 ⌝ }
+    ensures { λ r. ⌜ (r ≡ length (concat (map field (now (numbers .entry))))) × (r ≤ 11 * length (now (numbers .entry))) ⌝ }
+{
+    let mut count = 0;
+    let mut i = 0;
+    while i < numbers.len() {
+        count += 1 + count_digits(numbers[i] as u32);
+        i += 1;
+    }
+    count
+}
+
+// A field for each number.
+fn put_fields(numbers: &[u16], output: &mut [u8], at: usize) -> usize
+    requires { ⌜ at + length (concat (map field (now numbers))) ≤ length (now output) ⌝ }
+    ensures { λ r. ⌜ Written (now (output .entry)) at (concat (map field (now (numbers .entry)))) (now (output .exit)) r ⌝ }
+{
+    let mut end = at;
+    let mut i = 0;
+    while i < numbers.len() {
+        end = put_field(numbers[i] as u32, output, end);
+        i += 1;
+    }
+    end
+}
+
+// How many bytes a line has: a word, a number, and a list of numbers.
+pub fn list_length(word: &[u8], first: u16, numbers: &[u16]) -> usize
+    requires { ⌜ (length (now word) ≤ 65535) × (length (now numbers) ≤ 65535) ⌝ }
+    ensures { λ r. ⌜ r ≡ length (line (now (word .entry)) (first ∷ now (numbers .entry))) ⌝ }
+{
+    let head = word.len() + count_digits(first as u32) + 1;
+    head + fields_length(numbers) + 1
+}
+
+// A line: a word, a number, and a list of numbers.
+pub fn put_list(word: &[u8], first: u16, numbers: &[u16], output: &mut [u8], at: usize) -> usize
+    requires { ⌜ at + length (now word) + length (field first) + length (concat (map field (now numbers))) + 1 ≤ length (now output) ⌝ }
+    ensures { λ r. ⌜ Written (now (output .entry)) at (line (now (word .entry)) (first ∷ now (numbers .entry))) (now (output .exit)) r ⌝ }
+{
+    let head = put_bytes(word, output, at);
+    let tail = put_field(first as u32, output, head);
+    let end = put_fields(numbers, output, tail);
     output[end] = 10;
     end + 1
 }

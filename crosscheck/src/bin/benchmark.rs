@@ -12,10 +12,12 @@ use crosscheck::random::Random;
 use crosscheck::reference::decoding::Way;
 use crosscheck::reference::everybody;
 use crosscheck::reference::sharing::{Layout, deal, open, random_words};
-use crosscheck::reference::text::{ROOM, read};
+use crosscheck::reference::text::{LONGEST_WRITTEN, ROOM, read, write};
 
 const T: usize = 15;
 const D: usize = 64;
+/// The quorum in the texts.
+const QUORUM: u16 = 65535;
 
 /// One thing measured: each side's work, with its answer's number.
 struct Row {
@@ -63,18 +65,37 @@ fn reading(shares: &[u16]) -> Row {
     }
 }
 
-/// The longest text that can be read: every numeral of five digits.
+fn writing(shares: &[u16]) -> Row {
+    let words = five_digits(shares);
+    let other = words.clone();
+    let all = everybody(2 * T + 1);
+    let (mut mine, mut theirs) = (vec![0; LONGEST_WRITTEN], vec![0; LONGEST_WRITTEN]);
+    Row {
+        name: "writing 31 shares, 29362 bytes",
+        library: Box::new(move || plain::write(T, D, QUORUM, all, &words, black_box(&mut mine)).0),
+        reference: Box::new(move || write(T, D, QUORUM, all, &other, black_box(&mut theirs)).0),
+        number: 0,
+    }
+}
+
+/// Words of five digits each.
+fn five_digits(shares: &[u16]) -> Vec<u16> {
+    shares.iter().map(|word| 10000 + word % 50000).collect()
+}
+
+/// The longest text that can be read or written: every numeral of five digits.
 fn full_text(shares: &[u16]) -> Vec<u8> {
     let layout = Layout::new(T, D);
-    let mut text = format!("D\t{T}\t{D}\t65535\n");
+    let words = five_digits(shares);
+    let mut text = format!("D\t{T}\t{D}\t{QUORUM}\n");
     for i in 1..=layout.n {
         text += &format!("P\t{i}");
-        for word in layout.share(shares, i) {
-            text += &format!("\t{}", 10000 + word % 50000);
+        for word in layout.share(&words, i) {
+            text += &format!("\t{word}");
         }
         text += "\n";
     }
-    assert_eq!(text.len(), 29362);
+    assert_eq!(text.len(), LONGEST_WRITTEN);
     text.into_bytes()
 }
 
@@ -131,6 +152,7 @@ fn rows() -> Vec<Row> {
         opening("opening, 7 of 31 altered, in one word each", all, each, 0),
         opening("opening, 16 in the last word", all, last, 16),
         reading(&shares),
+        writing(&shares),
     ]
 }
 

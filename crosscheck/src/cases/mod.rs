@@ -10,6 +10,7 @@ pub mod pruning;
 pub mod reading;
 pub mod station;
 pub mod tags;
+pub mod writing;
 
 use crate::compare::Ledger;
 use crate::random::Random;
@@ -32,6 +33,7 @@ const GENERATORS: &[Generator] = &[
     decoding::all,
     tags::all,
     reading::all,
+    writing::all,
     orders::all,
     program::all,
 ];
@@ -100,5 +102,13 @@ impl Round<'_> {
         let shift = self.random.pick(&[4, 5, 8, 16, 31, 32, 48, 63]);
         self.random
             .pick(&[0, 16, 17, 31, 32, usize::MAX, good + (1 << shift)])
+    }
+
+    /// A d outside 1..64, also ones that are good when cut to fewer bits.
+    pub fn bad_d(&mut self) -> usize {
+        let good = self.random.within(1, 64);
+        let shift = self.random.pick(&[7, 8, 16, 31, 32, 48, 63]);
+        self.random
+            .pick(&[0, 65, 66, 128, usize::MAX, good + (1 << shift)])
     }
 }

@@ -2,10 +2,11 @@
 //! and is refused for it; then it gets the first fault too, and is refused for that one.
 
 use super::Round;
-use crate::calls::{Call, Deal, Decode, Open, Prune};
+use crate::calls::{Call, Deal, Decode, Open, Prune, Text, Write};
 use crate::random::Random;
 use crate::reference::field::mul;
 use crate::reference::sharing::{Layout, random_words};
+use crate::reference::text::LONGEST_WRITTEN;
 use crate::reference::{LARGEST, everybody};
 
 /// A call's refusals in their order. Any two of them can stand together.
@@ -29,6 +30,10 @@ pub const PRUNE: Order = Order {
 pub const DECODE: Order = Order {
     call: "decode",
     numbers: &[1, 11, 19, 12, 17, 18, 16],
+};
+pub const WRITE: Order = Order {
+    call: "write",
+    numbers: &[1, 2, 11, 12, 31],
 };
 
 impl Order {
@@ -64,6 +69,7 @@ pub fn all(round: &mut Round) {
     each::<Open>(round, &OPEN);
     each::<Prune>(round, &PRUNE);
     each::<Decode>(round, &DECODE);
+    each::<Write>(round, &WRITE);
 }
 
 /// No fault, every single fault and every pair.
@@ -296,6 +302,59 @@ impl Faulty for Decode {
                 self.values = (1..=2 * self.t + 1)
                     .map(|i| stray_value(self.t, i))
                     .collect()
+            }
+        }
+    }
+}
+
+/// How many bytes the shortest text would have, for whatever t and d.
+const SHORTEST: usize = 8;
+
+impl Write {
+    /// A buffer that was too short still is, whatever t and d become.
+    fn keep_short(&mut self, random: &mut Random) {
+        if self.by_reference().number == 31 {
+            self.text.0.truncate(random.below(SHORTEST));
+        }
+    }
+}
+
+impl Faulty for Write {
+    fn good(random: &mut Random) -> Write {
+        let (t, d) = (random.within(1, 15), random.within(1, 3));
+        let layout = Layout::new(t, d);
+        let mut call = Write {
+            t,
+            d,
+            quorum: random.word(),
+            present: random.mask() & everybody(layout.n),
+            shares: random.words(layout.total()),
+            text: Text(random.bytes(LONGEST_WRITTEN)),
+            count: random.draw() as usize,
+        };
+        if random.coin() {
+            let length = call.by_reference().count;
+            call.text.0.truncate(length);
+        }
+        call
+    }
+
+    fn spoil(&mut self, random: &mut Random, fault: u16) {
+        match fault {
+            1 => {
+                self.keep_short(random);
+                self.t = bad_t(random, self.t, self.present);
+            }
+            2 => {
+                self.keep_short(random);
+                self.d = random.pick(&[0, 65, 66]);
+            }
+            11 => change_length(random, &mut self.shares, 0),
+            12 => self.present |= beyond(random, self.t),
+            _ => {
+                let length = self.by_reference().count;
+                let any = random.below(length);
+                self.text.0.truncate(random.pick(&[length - 1, any]));
             }
         }
     }

@@ -20,6 +20,16 @@ impl Page {
         }
     }
 
+    /// The first line and these members' lines, in that order.
+    pub fn of(t: usize, d: usize, quorum: u16, shares: &[u16], order: &[usize]) -> Page {
+        let mut page = Page::new(t, d, numeral(quorum as usize));
+        for i in order {
+            let words = page.layout.share(shares, *i).iter();
+            page.add(*i, words.map(|word| numeral(*word as usize)));
+        }
+        page
+    }
+
     /// Adds a member's line.
     pub fn add(&mut self, member: usize, words: impl Iterator<Item = Vec<u8>>) {
         let mut line = vec![b"P".to_vec(), numeral(member)];

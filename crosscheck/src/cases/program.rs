@@ -2,7 +2,7 @@
 //! that the library opens, and some of the texts that it reads, go to the program too.
 
 use super::Round;
-use super::page::{Page, numeral};
+use super::page::Page;
 use super::reading::{Fault, Faulty};
 use super::station::{Handed, Keys, Station};
 use crate::calls::{Print, Text};
@@ -49,14 +49,8 @@ fn any_order(random: &mut Random, handed: &Handed) -> Vec<usize> {
 
 /// What these members hand in, as a text.
 fn printed(handed: &Handed, order: &[usize]) -> Page {
-    let layout = handed.layout();
-    let quorum = numeral(handed.quorum as usize);
-    let mut page = Page::new(handed.station.t, layout.d, quorum);
-    for i in order {
-        let words = layout.share(&handed.shares, *i).iter();
-        page.add(*i, words.map(|word| numeral(*word as usize)));
-    }
-    page
+    let (t, d) = (handed.station.t, handed.layout().d);
+    Page::of(t, d, handed.quorum, &handed.shares, order)
 }
 
 /// Has both sides print, notes the classes and gives the number, 0 for a text that opens.

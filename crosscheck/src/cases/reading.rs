@@ -66,13 +66,17 @@ pub fn all(round: &mut Round) {
 }
 
 /// A word of any count of digits, each border included.
-fn some_numeral(random: &mut Random) -> Vec<u8> {
+pub fn some_word(random: &mut Random) -> usize {
     let any = random.word() as usize;
     let width = random.within(0, 4) as u32;
     let tried = [0, 9, 10, 65520, 65521, 65535, 60000, 59999, 10000, 9999];
     let short = any % 10usize.pow(width);
     let border = random.pick(&tried);
-    numeral(random.pick(&[any, any, short, short, border]))
+    random.pick(&[any, any, short, short, border])
+}
+
+fn some_numeral(random: &mut Random) -> Vec<u8> {
+    numeral(some_word(random))
 }
 
 /// A good text with lines for some members.
@@ -89,7 +93,7 @@ fn page(random: &mut Random, t: usize, d: usize) -> Page {
     page
 }
 
-fn some_page(round: &mut Round) -> Page {
+pub fn some_page(round: &mut Round) -> Page {
     let (t, d) = match round.random.once_in(6) {
         true => (round.some_t(), round.some_d()),
         false => (round.random.within(1, 3), round.random.within(1, 4)),
@@ -108,7 +112,7 @@ fn page_with(round: &mut Round, count: usize) -> Page {
 }
 
 /// Reads by both sides. Now and then the program reads it too.
-fn submit(round: &mut Round, kind: &str, text: Vec<u8>, room: usize) -> (Read, ReadAnswer) {
+pub fn submit(round: &mut Round, kind: &str, text: Vec<u8>, room: usize) -> (Read, ReadAnswer) {
     let call = Read {
         text: Text(text),
         words: round.random.words(room),

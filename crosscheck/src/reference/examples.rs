@@ -1,11 +1,11 @@
-//! The rules' examples C1 to C14 against the other implementation.
+//! The rules' examples C1 to C14, and some more, against the other implementation.
 
 use super::decoding::{Way, decode};
 use super::field::{inverse, mul};
 use super::program::printed;
 use super::pruning::prune;
 use super::sharing::{Opening, deal, open, tag};
-use super::text::{ROOM, Reading, read};
+use super::text::{ROOM, Reading, read, write};
 
 const TEXT: &str = "D\t1\t1\t0\n\
     P\t1\t253\t254\t507\t760\t1\t1\t1\t2\t1\t3\n\
@@ -127,4 +127,67 @@ fn the_program_prints() {
         text += &format!("P\t{i}\t{word}{}\n", "\t0".repeat(9));
     }
     assert_eq!(printed(text.as_bytes()), "REFUSED\t16\t7\n");
+}
+
+/// The shares of `TEXT`.
+fn handed_in() -> Vec<u16> {
+    let mut shares = c5(numbered_keys());
+    shares[20] = 300;
+    shares
+}
+
+#[test]
+fn the_writer_writes() {
+    let mut text = vec![b'x'; TEXT.len() + 2];
+    assert_eq!(write(1, 1, 0, 7, &handed_in(), &mut text), (0, TEXT.len()));
+    assert_eq!(text, [TEXT.as_bytes(), b"xx"].concat());
+    // nobody present, whatever the words
+    let mut text = *b"............";
+    assert_eq!(write(1, 1, 65535, 0, &[65535; 30], &mut text), (0, 12));
+    assert_eq!(&text, b"D\t1\t1\t65535\n");
+    // an absent member's words are read as 0
+    let mut text = vec![0; TEXT.len()];
+    let (number, count) = write(1, 1, 2, 5, &handed_in(), &mut text);
+    let mut words = vec![1; ROOM];
+    let reading = read(&text[..count], &mut words);
+    let wanted = Reading {
+        number: 0,
+        t: 1,
+        d: 1,
+        quorum: 2,
+        present: 5,
+    };
+    assert_eq!((number, reading), (0, wanted));
+    let mut shares = handed_in();
+    shares[10..20].fill(0);
+    assert_eq!(words[..30], shares);
+}
+
+#[test]
+fn the_longest_text() {
+    let mut text = vec![0; 29362];
+    let all = (1 << 31) - 1;
+    let shares = vec![65535; 4867];
+    assert_eq!(write(15, 64, 65535, all, &shares, &mut text), (0, 29362));
+    let mut words = vec![1; ROOM];
+    assert_eq!(read(&text, &mut words).present, all);
+    assert_eq!(words, shares);
+}
+
+#[test]
+fn the_writer_refuses_in_order() {
+    let mut text = vec![b'x'; TEXT.len() - 1];
+    let shares = handed_in();
+    let mut number = |t, d, present, shares: &[u16]| {
+        let (number, count) = write(t, d, 9, present, shares, &mut text);
+        assert_eq!(count, 0);
+        assert!(text.iter().all(|byte| *byte == b'x'));
+        number
+    };
+    assert_eq!(number(0, 0, 8, &shares[1..]), 1);
+    assert_eq!(number(16, 1, 7, &shares), 1);
+    assert_eq!(number(1, 65, 8, &shares[1..]), 2);
+    assert_eq!(number(1, 1, 8, &shares[1..]), 11);
+    assert_eq!(number(1, 1, 8, &shares), 12);
+    assert_eq!(number(1, 1, 7, &shares), 31);
 }

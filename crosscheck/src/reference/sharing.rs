@@ -191,6 +191,16 @@ pub fn open(
 
 /// The refusals that come before any word is looked at.
 fn judged(t: usize, present: u32, quorum: u16, shares: &[u16], d: usize) -> Result<Layout, u16> {
+    let layout = fitting(t, d, present, shares)?;
+    let quorum = quorum as usize;
+    if quorum != 0 && !(t + 1..=layout.n).contains(&quorum) {
+        return Err(13);
+    }
+    Ok(layout)
+}
+
+/// Whether t, d, the shares and the mask fit each other.
+pub fn fitting(t: usize, d: usize, present: u32, shares: &[u16]) -> Result<Layout, u16> {
     if !allowed(t) {
         return Err(1);
     }
@@ -203,10 +213,6 @@ fn judged(t: usize, present: u32, quorum: u16, shares: &[u16], d: usize) -> Resu
     }
     if present & !everybody(layout.n) != 0 {
         return Err(12);
-    }
-    let quorum = quorum as usize;
-    if quorum != 0 && !(t + 1..=layout.n).contains(&quorum) {
-        return Err(13);
     }
     Ok(layout)
 }

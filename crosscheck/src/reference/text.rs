@@ -1,12 +1,14 @@
-//! The reader of hand-in text, by splitting into lines and fields.
+//! The reader of hand-in text, by splitting into lines and fields, and the writer.
 
-use super::sharing::Layout;
-use super::{allowed, holds};
+use super::sharing::{Layout, fitting};
+use super::{allowed, holds, members};
 
 /// How many words the reader's buffer has.
 pub const ROOM: usize = 4867;
-/// The longest text, in bytes.
+/// The longest text that is read, in bytes.
 pub const LONGEST: usize = 40000;
+/// The longest text that is written, in bytes.
+pub const LONGEST_WRITTEN: usize = 29362;
 
 /// What the reader gives beside the words.
 #[derive(Clone, Copy, Debug, Default, PartialEq, Eq)]
@@ -99,4 +101,36 @@ fn numeral(field: &[u8]) -> Option<u16> {
         return None;
     }
     digits.parse().ok()
+}
+
+/// The call: writes into `text`, which a refusal leaves as it is, as it does the bytes past what is
+/// written. Gives the refusal number and how many bytes were written.
+pub fn write(
+    t: usize,
+    d: usize,
+    quorum: u16,
+    present: u32,
+    shares: &[u16],
+    text: &mut [u8],
+) -> (u16, usize) {
+    let layout = match fitting(t, d, present, shares) {
+        Ok(layout) => layout,
+        Err(number) => return (number, 0),
+    };
+    let written = written(t, layout, quorum, present, shares);
+    match text.get_mut(..written.len()) {
+        Some(start) => start.copy_from_slice(written.as_bytes()),
+        None => return (31, 0),
+    }
+    (0, written.len())
+}
+
+fn written(t: usize, layout: Layout, quorum: u16, present: u32, shares: &[u16]) -> String {
+    let mut text = format!("D\t{t}\t{}\t{quorum}\n", layout.d);
+    for i in members(present) {
+        let words = layout.share(shares, i).iter();
+        let fields: Vec<String> = words.map(|word| word.to_string()).collect();
+        text += &format!("P\t{i}\t{}\n", fields.join("\t"));
+    }
+    text
 }

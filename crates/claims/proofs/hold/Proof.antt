@@ -3,6 +3,7 @@
 use Rattle.claims.proofs.Demand2.{demand2}
 use Rattle.claims.proofs.Demand3.{demand3, dealt-anywhere}
 use Rattle.claims.proofs.Examples.{examples, corners}
+use Rattle.claims.proofs.HandIn.{reads-back, at-most, always-fits, hand-in-instances}
 use Rattle.claims.proofs.Instances.{instances}
 use Rattle.claims.proofs.Opening.{opening}
 use Rattle.claims.proofs.Rules.{rules}
@@ -20,6 +21,10 @@ hold-spec =
       instances = instances;
       opening = opening;
       dealt-anywhere = dealt-anywhere;
+      reads-back = reads-back;
+      at-most = at-most;
+      always-fits = always-fits;
+      hand-in-instances = hand-in-instances;
       rules = rules;
       examples = examples;
       corners = corners;
