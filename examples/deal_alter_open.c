@@ -1,5 +1,6 @@
-/* Deals a secret to five members, sees that it opens, alters one member's share, and opens what
-   they hand in, through its text: the shares are written down, read back and opened. */
+/* Deals a secret to five members, sees that it opens, also from three of them, alters one member's
+   share, and opens what they hand in, through its text: the shares are written down, read back and
+   opened. */
 #include "rutzebam.h"
 
 #include <stdio.h>
@@ -12,7 +13,8 @@ enum {
     WIDTH = RUTZEBAM_SHARE_WORDS(T, D),
     SHARES = RUTZEBAM_SHARES_WORDS(T, D),
     RANDOM = RUTZEBAM_RANDOM_WORDS(T, D),
-    ALL = (1 << N) - 1
+    ALL = (1 << N) - 1,
+    THREE = 7 /* members 1 to 3 */
 };
 
 /* Words for an example only: a recorder takes them from a good source of randomness. A word above
@@ -27,18 +29,31 @@ static void draw(uint16_t *words, size_t len)
         } while (words[i] > 65520);
 }
 
-/* Opens the shares of all members: 1 if that gives the secret, and the members given survive and
-   agree. */
-static int opens(const uint16_t *shares, const uint16_t *secret, uint32_t members)
+/* Opens the shares of the present members: 1 if that gives the secret, and the members given survive
+   and agree. */
+static int opens(uint32_t present, uint16_t quorum, const uint16_t *shares, const uint16_t *secret,
+                 uint32_t members)
 {
     uint16_t opened[D];
     uint32_t survivors = 0, agreeing = 0;
-    uint16_t number = rutzebam_open(T, ALL, 0, shares, SHARES, opened, D, &survivors, &agreeing);
+    uint16_t number =
+        rutzebam_open(T, present, quorum, shares, SHARES, opened, D, &survivors, &agreeing);
     printf("opening: %u, survivors %u, agreeing %u, secret %u %u %u\n", number,
            (unsigned)survivors, (unsigned)agreeing, opened[0], opened[1], opened[2]);
     for (size_t k = 0; k < D; k++)
         if (opened[k] != secret[k]) return 0;
     return number == RUTZEBAM_OK && survivors == members && agreeing == members;
+}
+
+/* Opens the shares of members 1 to 3: 1 if quorum 0 refuses, since it asks for one share more than
+   T + 1, and quorum T + 1 gives the secret. */
+static int opens_without_spare(const uint16_t *shares, const uint16_t *secret)
+{
+    uint16_t opened[D];
+    uint32_t survivors = 0, agreeing = 0;
+    uint16_t number = rutzebam_open(T, THREE, 0, shares, SHARES, opened, D, &survivors, &agreeing);
+    printf("opening three with quorum 0: %u\n", number);
+    return number == RUTZEBAM_QUORUM_NOT_MET && opens(THREE, T + 1, shares, secret, THREE);
 }
 
 /* Writes the shares of all members as text, and reads them back into words: 1 if that gives what was
@@ -72,12 +87,14 @@ int main(void)
     if (number != RUTZEBAM_OK) return 1;
 
     /* the readings may be deleted only once the shares are seen to open to them */
-    if (!opens(shares, secret, ALL)) return 1;
+    if (!opens(ALL, 0, shares, secret, ALL)) return 1;
+
+    if (!opens_without_spare(shares, secret)) return 1;
 
     /* member 4 comes back with another first word: the others strike it, also where the shares come
        as text */
     shares[3 * WIDTH] = (uint16_t)((shares[3 * WIDTH] + 1u) % 65521u);
-    if (!opens(shares, secret, 23)) return 1;
+    if (!opens(ALL, 0, shares, secret, 23)) return 1;
     if (!hands_in(shares, words)) return 1;
-    return opens(words, secret, 23) ? 0 : 1;
+    return opens(ALL, 0, words, secret, 23) ? 0 : 1;
 }

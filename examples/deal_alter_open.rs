@@ -1,5 +1,6 @@
-//! Deals a secret to five members, sees that it opens, alters one member's share, and opens what
-//! they hand in, through its text: the shares are written down, read back and opened.
+//! Deals a secret to five members, sees that it opens, also from three of them, alters one member's
+//! share, and opens what they hand in, through its text: the shares are written down, read back and
+//! opened.
 
 unsafe extern "C" {
     fn rutzebam_deal(
@@ -50,6 +51,8 @@ const D: usize = 3;
 const N: usize = 2 * T + 1;
 const WIDTH: usize = D + 3 * N;
 const ALL: u32 = (1 << N) - 1;
+/// Members 1 to 3.
+const THREE: u32 = 7;
 /// How many words reading fills, and how many bytes are always enough for writing.
 const READ_WORDS: usize = 4867;
 const WRITE_BYTES: usize = 29362;
@@ -190,10 +193,17 @@ fn draw(count: usize) -> Vec<u16> {
         .collect()
 }
 
-/// Opens the shares of all members: an error unless that gives the secret, and the members given
-/// survive and agree.
-fn must_open(shares: &[u16], secret: &[u16], members: u32) -> Result<(), String> {
-    let opened = open(T, D, ALL, 0, shares).map_err(|refused| format!("opening: {refused:?}"))?;
+/// Opens the shares of the present members: an error unless that gives the secret, and the members
+/// given survive and agree.
+fn must_open(
+    present: u32,
+    quorum: u16,
+    shares: &[u16],
+    secret: &[u16],
+    members: u32,
+) -> Result<(), String> {
+    let opened =
+        open(T, D, present, quorum, shares).map_err(|refused| format!("opening: {refused:?}"))?;
     let (survivors, agreeing) = (opened.survivors, opened.agreeing);
     println!(
         "opening: survivors {survivors}, agreeing {agreeing}, secret {:?}",
@@ -203,6 +213,16 @@ fn must_open(shares: &[u16], secret: &[u16], members: u32) -> Result<(), String>
         true => Ok(()),
         false => Err("another secret or other members".to_string()),
     }
+}
+
+/// Opens the shares of members 1 to 3: an error unless quorum 0 refuses, since it asks for one share
+/// more than T + 1, and quorum T + 1 gives the secret.
+fn must_open_without_spare(shares: &[u16], secret: &[u16]) -> Result<(), String> {
+    match open(T, D, THREE, 0, shares) {
+        Err((14, _)) => println!("opening three with quorum 0: 14"),
+        _ => return Err("quorum 0 did not ask for a spare".to_string()),
+    }
+    must_open(THREE, T as u16 + 1, shares, secret, THREE)
 }
 
 /// Writes the shares of all members as text, and reads them back: an error unless that gives what
@@ -234,11 +254,13 @@ fn main() -> Result<(), String> {
     println!("dealing: 0");
 
     // The readings may be deleted only once the shares are seen to open to them.
-    must_open(&shares, &secret, ALL)?;
+    must_open(ALL, 0, &shares, &secret, ALL)?;
+
+    must_open_without_spare(&shares, &secret)?;
 
     // Member 4 comes back with another first word: the others strike it, also where the shares come
     // as text.
     shares[3 * WIDTH] = ((shares[3 * WIDTH] as u32 + 1) % 65521) as u16;
-    must_open(&shares, &secret, 23)?;
-    must_open(&must_hand_in(&shares)?, &secret, 23)
+    must_open(ALL, 0, &shares, &secret, 23)?;
+    must_open(ALL, 0, &must_hand_in(&shares)?, &secret, 23)
 }

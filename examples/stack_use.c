@@ -158,9 +158,9 @@ static void open_words(size_t d)
     quorum = 0;
     measure(&open_, RUTZEBAM_OK);
     present = (uint32_t)((1u << (t + 1)) - 1);
-    measure(&open_, RUTZEBAM_OK);
-    present = (uint32_t)((1u << t) - 1);
     measure(&open_, RUTZEBAM_QUORUM_NOT_MET);
+    quorum = (uint16_t)(t + 1);
+    measure(&open_, RUTZEBAM_OK);
     present = (uint32_t)((1u << n) - 1);
     /* more and more members altered, each in another word, the first ones first */
     for (size_t e = 1; e <= t; e++) {

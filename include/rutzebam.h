@@ -38,10 +38,10 @@
 extern "C" {
 #endif
 
-#define RUTZEBAM_VERSION_MAJOR 1
-#define RUTZEBAM_VERSION_MINOR 1
+#define RUTZEBAM_VERSION_MAJOR 2
+#define RUTZEBAM_VERSION_MINOR 0
 #define RUTZEBAM_VERSION_PATCH 0
-#define RUTZEBAM_VERSION "1.1.0"
+#define RUTZEBAM_VERSION "2.0.0"
 
 /* How many words a share has: d share words, n tags and n keys of two words. */
 #define RUTZEBAM_SHARE_WORDS(t, d) ((d) + 3 * (2 * (t) + 1))
@@ -104,8 +104,9 @@ uint16_t rutzebam_deal(size_t t,
                        uint16_t *shares, size_t shares_len);
 
 /* Opens the shares of the present members into the secret, whose length is d. At least `quorum` of
-   the present members must have shares of field words alone; 0 stands for t + 1. `survivors` gets the
-   members that the votes leave, `agreeing` those of them whose words lie on the polynomials found.
+   the present members must have shares of field words alone; 0 stands for t + 2. So with no share to
+   spare, t + 1 of them, the quorum t + 1 has to be handed over. `survivors` gets the members that the
+   votes leave, `agreeing` those of them whose words lie on the polynomials found.
    1: t. 2: the secret's length. 11: how many words of shares. 12: a member beyond n is present.
    13: the quorum is neither 0 nor t + 1 to n. 14: the quorum is not met. 15: no survivors.
    16: too few survivors agree. On a refusal every word of the secret is 65535, at whatever length it

@@ -1,4 +1,4 @@
-"""Another implementation of the program `opening` (document 01), with the texts that src/main.rt prints the answers of.
+"""Another implementation of the program `opening` (documents 01 and 02), with the texts that src/main.rt prints the answers of.
 
 `python3 model.py stdin` writes the text on standard input, `python3 model.py stdout` what the program must print.
 """
@@ -8,6 +8,7 @@ import sys
 
 P = 65521
 PLAIN = "D\t1\t1\t0\n"
+BY_TWO = "D\t1\t1\t2\n"
 ONE = "P\t1\t253\t254\t507\t760\t1\t1\t1\t2\t1\t3\n"
 TWO = "P\t2\t256\t258\t514\t770\t2\t1\t2\t2\t2\t3\n"
 THREE = "P\t3\t300\t262\t521\t780\t3\t1\t3\t2\t3\t3\n"
@@ -24,18 +25,19 @@ def zeros(changed):
 
 
 TEXTS = [
-    # opened: the sample, two members, C13, two words
+    # opened: the sample, C12, C13, two words
     PLAIN + ONE + TWO + THREE,
-    PLAIN + TWO + ONE,
+    BY_TWO + TWO + ONE,
     zeros([(4, 0)]),
     "D\t1\t2\t2\nP\t1\t5\t65520" + ZEROS + "\nP\t3\t5\t65520" + ZEROS + "\n",
-    # refused: 13, twice; 14, nobody, C11, a word above 65520; 15; 16, C10 and C14
+    # refused: 13, twice; 14, nobody, C11, C12 with quorum 0, a word above 65520; 15; 16, C10 and C14
     "D\t1\t1\t1\n",
     "D\t1\t1\t4\n" + ONE + TWO + DEALT,
     PLAIN,
     PLAIN + ONE,
-    PLAIN + ONE + "P\t2\t256\t258\t514\t770\t2\t1\t2\t2\t2\t65521\n",
-    PLAIN + ONE + "P\t2\t256\t0\t514\t770\t2\t1\t2\t2\t2\t3\n",
+    PLAIN + TWO + ONE,
+    BY_TWO + ONE + "P\t2\t256\t258\t514\t770\t2\t1\t2\t2\t2\t65521\n",
+    BY_TWO + ONE + "P\t2\t256\t0\t514\t770\t2\t1\t2\t2\t2\t3\n",
     PLAIN + "P\t1\t253" + ZEROS + "\nP\t2\t256" + ZEROS + "\nP\t3\t300" + ZEROS + "\n",
     zeros([(4, 0), (5, 1)]),
     # refused: 22, 23, 24
@@ -125,7 +127,7 @@ def opened(t, d, quorum, shares):
     if quorum != 0 and not t + 1 <= quorum <= n:
         return 13, []
     able = [i for i in shares if max(shares[i]) < P]
-    if len(able) < (quorum or t + 1):
+    if len(able) < (quorum or t + 2):
         return 14, []
 
     def accepts(j, i):

@@ -26,6 +26,8 @@ const CLASSES: &[&str] = &[
     "open: all colluders struck",
     "open: quorum just met",
     "open: quorum missed by one",
+    "open: quorum 0 just met",
+    "open: quorum 0 missed by one",
     "open: done, compared with the search too",
     "prune: nobody survives",
     "prune: some survive",

@@ -29,7 +29,7 @@ examples =
       c9 = (Handin.examples .c9-read, Reconstruction.examples .c9-opened, Report.examples .c9-printed);
       c10 = (Dealing.examples .c10-dealt, Handin.examples .c10-read, Reconstruction.examples .c10-opened, Report.examples .c10-printed);
       c11 = Reconstruction.examples .c11;
-      c12 = Reconstruction.examples .c12;
+      c12 = (Reconstruction.examples .c12, Reconstruction.examples .c12-default);
       c13 = Reconstruction.examples .c13;
       c14 = Reconstruction.examples .c14;
     }

@@ -1,11 +1,10 @@
--- The instances of demand 3, by computing.
+-- The instances of demands 2 and 3, by computing.
 -- Assumes nothing.
 use Prim.Native.Nat.{ℕ, _<_}
 use mathlib.Core.Path.{_≡_, refl}
 use mathlib.Core.Bool.{Bool, true, _&&_, _||_, not}
 use mathlib.Core.List.{List}
 use lib.Dec.{eqb, lit<, lit≤}
-use lib.ListN.{replicate}
 use borrow.Author.Tests.{eqb-true}
 use Rattle.lists.specs.Tabulate.{tab, all, count, keep, each, first, concat, choose}
 use Rattle.lists.proofs.Bools.{and-left, and-right}
@@ -20,7 +19,7 @@ use Rattle.decoding.specs.Decoding.{surplus, need, agreeing, through, find}
 use Rattle.dealing.specs.Dealing.{randomLength, polynomial, dealtα, dealtβ, dealtWords, dealtTag, dealtShare, dealtShares, deal}
 use Rattle.voting.specs.Votes.{fieldShare, usable, tagHolds, accepts, voteRows}
 use Rattle.reconstruction.specs.Reconstruction.{unopened, isQuorum, required, atZero, openedFrom, finish, reconstruct}
-use Rattle.claims.specs.Demands.{AsDealt, altered}
+use Rattle.claims.specs.Demands.{Dealing, AsDealt, altered}
 use Rattle.claims.specs.Instances.{Instances}
 
 -- member i is present with all its dealt words
@@ -40,6 +39,10 @@ as-tested t d present honest dealt words h i l e =
           (and-right (has present i) (all (width t d) (λ k. eqb (word t d words i k) (word t d dealt i k))) p) k m);
     }
 
+-- a dealing into a buffer that holds the dealt words already
+dealt-over : (t : ℕ) (secret random dealt : List ℕ) → deal t secret random dealt ≡ record { number = 0; shares = dealt } → Dealing t secret random dealt
+dealt-over t secret random dealt e = record { buffer = dealt; accepted = e }
+
 pub instances : Instances
 unfolding tab all count keep each first concat choose difference product power inverse eval value linear slopes interpolate size ownPoints bit has
     setOf card membersOf surplus need agreeing through find tag width word shareWords tagWord keyα keyβ votes round rounds survivors fieldShare usable
@@ -47,49 +50,13 @@ unfolding tab all count keep each first concat choose difference product power i
     dealtTag dealtShare dealtShares deal altered
 instances =
     record {
-      altered-survivor = record {
-        dealing = record { buffer = replicate 80 0; accepted = refl };
-        handed = record { n-shares = refl; n-members = lit< tt; is-quorum = refl; met = lit≤ tt };
-        many = lit≤ tt;
-        as-dealt = as-tested _ _ _ _ _ _ refl;
-        opens = refl;
-        alterations = refl;
-        surplus-is = refl;
-      };
-      refused = record {
-        dealing = record { buffer = replicate 80 0; accepted = refl };
-        handed = record { n-shares = refl; n-members = lit< tt; is-quorum = refl; met = lit≤ tt };
-        many = lit≤ tt;
-        as-dealt = as-tested _ _ _ _ _ _ refl;
-        opens = refl;
-        alterations = refl;
-        surplus-is = refl;
-      };
-      another-secret = record {
-        dealing = record { buffer = replicate 80 0; accepted = refl };
-        handed = record { n-shares = refl; n-members = lit< tt; is-quorum = refl; met = lit≤ tt };
-        many = lit≤ tt;
-        as-dealt = as-tested _ _ _ _ _ _ refl;
-        opens = refl;
-        alterations = refl;
-        surplus-is = refl;
-      };
-      odd-surplus = record {
-        dealing = record { buffer = replicate 154 0; accepted = refl };
-        handed = record { n-shares = refl; n-members = lit< tt; is-quorum = refl; met = lit≤ tt };
-        many = lit≤ tt;
-        as-dealt = as-tested _ _ _ _ _ _ refl;
-        opens = refl;
-        alterations = refl;
-        surplus-is = refl;
-      };
-      odd-refused = record {
-        dealing = record { buffer = replicate 154 0; accepted = refl };
-        handed = record { n-shares = refl; n-members = lit< tt; is-quorum = refl; met = lit≤ tt };
-        many = lit≤ tt;
-        as-dealt = as-tested _ _ _ _ _ _ refl;
-        opens = refl;
-        alterations = refl;
-        surplus-is = refl;
-      };
+      by-default = search (lit<, lit≤, as-tested, dealt-over);
+      no-spare = search (lit<, lit≤, as-tested, dealt-over);
+      unmet = refl;
+      altered-by-quorum = search (lit<, lit≤, as-tested, dealt-over);
+      altered-survivor = search (lit<, lit≤, as-tested, dealt-over);
+      refused = search (lit<, lit≤, as-tested, dealt-over);
+      another-secret = search (lit<, lit≤, as-tested, dealt-over);
+      odd-surplus = search (lit<, lit≤, as-tested, dealt-over);
+      odd-refused = search (lit<, lit≤, as-tested, dealt-over);
     }

@@ -9,7 +9,7 @@ use Rattle.claims.specs.Rules.{Rules}
 pub record Claims : Type 0 where
   pub demand2 : Demand2
   pub demand3 : Demand3
-  -- demand 3 is not empty, and says no more than is so
+  -- demands 2 and 3 are not empty, and say no more than is so
   pub instances : Instances
   -- demand 3 for any distinct points
   pub opening : Opening

@@ -13,7 +13,7 @@ use Rattle.pruning.specs.Examples as Pruning
 use Rattle.decoding.specs.Examples as Decoding
 use Rattle.dealing.specs.Examples.{C5, C10Dealt}
 use Rattle.dealing.specs.Examples as Dealing
-use Rattle.reconstruction.specs.Examples.{C9Opened, C10Opened, C11, C12, C13, C14}
+use Rattle.reconstruction.specs.Examples.{C9Opened, C10Opened, C11, C12, C12Default, C13, C14}
 use Rattle.reconstruction.specs.Examples as Reconstruction
 use Rattle.text.specs.Examples as Text
 use Rattle.handin.specs.Examples.{C9Read, C10Read}
@@ -35,7 +35,8 @@ pub record Examples : Type 0 where
   -- dealt, read, refused, and printed
   pub c10 : C10Dealt × C10Read × C10Opened × C10Printed
   pub c11 : C11
-  pub c12 : C12
+  -- by quorum 2, and not by quorum 0
+  pub c12 : C12 × C12Default
   pub c13 : C13
   pub c14 : C14
 

@@ -1,4 +1,4 @@
--- Instances of demand 3: dealings and hand-ins that meet all its premises, and what opening answers. Proved in proofs/Instances.antt.
+-- Instances of demands 2 and 3: dealings and hand-ins that meet all premises, and what opening answers. Proved in proofs/Instances.antt.
 -- All keys are 0, so every altered share survives.
 use Prim.Native.Nat.{ℕ, suc, _*_, _≤_, _<_}
 use mathlib.Core.Path.{_≡_}
@@ -11,7 +11,8 @@ use Rattle.decoding.specs.Decoding.{surplus}
 use Rattle.reconstruction.specs.Reconstruction.{Opened, unopened, reconstruct}
 use Rattle.claims.specs.Demands.{Dealing, HandedIn, AsDealt, altered}
 
--- every premise of demand 3, the answer, how many survivors have altered share words, and the surplus
+-- every premise of demand 3, the answer, how many survivors have altered share words, and the surplus; where the honest members are all that
+-- are present, every premise of demand 2 too
 pub record Instance (t : ℕ) (secret random dealt words : List ℕ) (present quorum honest : ℕ) (answer : Opened) (changed extra : ℕ) : Type 0 where
   pub dealing : Dealing t secret random dealt
   pub handed : HandedIn t (length secret) present quorum words
@@ -30,9 +31,19 @@ abbrev pub random : ℕ → List ℕ → List ℕ
 random t coefficients = coefficients ++ replicate (2 * (size t * size t)) 0
 
 -- t = 2 and the polynomial 100 + 7x + 3x², with the values 110, 126, 148, 176, 210
+abbrev pub FiveOf : List ℕ → ℕ → ℕ → ℕ → Opened → ℕ → ℕ → Type 0
+FiveOf values present quorum honest answer changed extra =
+    Instance 2 (100 ∷ []) (random 2 (7 ∷ 3 ∷ [])) (shares 2 (110 ∷ 126 ∷ 148 ∷ 176 ∷ 210 ∷ [])) (shares 2 values) present quorum honest answer changed extra
+
+-- all five present, with quorum 0
 abbrev pub Five : List ℕ → ℕ → Opened → ℕ → Type 0
-Five values honest answer changed =
-    Instance 2 (100 ∷ []) (random 2 (7 ∷ 3 ∷ [])) (shares 2 (110 ∷ 126 ∷ 148 ∷ 176 ∷ 210 ∷ [])) (shares 2 values) 31 0 honest answer changed 2
+Five values honest answer changed = FiveOf values 31 0 honest answer changed 2
+
+-- all that are present are as dealt
+abbrev pub Unaltered : ℕ → ℕ → ℕ → Type 0
+Unaltered present quorum extra =
+    FiveOf (110 ∷ 126 ∷ 148 ∷ 176 ∷ 210 ∷ []) present quorum present
+    (record { number = 0; survivors = present; agreeing = present; secret = 100 ∷ [] }) 0 extra
 
 -- t = 3 and the polynomial 250 + x + 2x² + 3x³, with the values 256, 284, 352, 478, 680, 976, 1384
 abbrev pub Seven : List ℕ → ℕ → Opened → ℕ → Type 0
@@ -40,6 +51,13 @@ Seven values honest answer changed =
     Instance 3 (250 ∷ []) (random 3 (1 ∷ 2 ∷ 3 ∷ [])) (shares 3 (256 ∷ 284 ∷ 352 ∷ 478 ∷ 680 ∷ 976 ∷ 1384 ∷ [])) (shares 3 values) 127 0 honest answer changed 3
 
 pub record Instances : Type 0 where
+  -- quorum 0 is met by t + 2 members, and quorum t + 1 by t + 1
+  pub by-default : Unaltered 15 0 1
+  pub no-spare : Unaltered 7 3 0
+  -- t + 1 do not meet quorum 0: that the quorum is met is needed, also where every share is as dealt
+  pub unmet : reconstruct 2 1 7 0 (shares 2 (110 ∷ 126 ∷ 148 ∷ 176 ∷ 210 ∷ [])) ≡ unopened 1 0 14
+  -- quorum t + 1, and a survivor altered beside t + 1 as dealt
+  pub altered-by-quorum : FiveOf (110 ∷ 126 ∷ 148 ∷ 0 ∷ 210 ∷ []) 15 3 7 (unopened 1 15 16) 1 1
   -- an altered survivor, at most half the surplus: the dealt secret
   pub altered-survivor : Five (110 ∷ 126 ∷ 148 ∷ 0 ∷ 210 ∷ []) 23 (record { number = 0; survivors = 31; agreeing = 23; secret = 100 ∷ [] }) 1
   -- two of them: 16

@@ -5,7 +5,7 @@ use mathlib.Core.Logic.{inl, inr}
 use mathlib.Core.Bool.{Bool, true}
 use mathlib.Core.List.{List}
 use Prim.Native.Nat.{ℕ, suc, _+_, _*_, _^_, _≤_, _<_}
-use native.Mathlib.Nat.{le-refl}
+use native.Mathlib.Omega.{arith}
 use native.Mathlib.Numerals.{add-one}
 use lib.Dec.{eqb}
 use lib.ListN.{length, replicate}
@@ -43,15 +43,15 @@ pub required-least : (t quorum : ℕ) → isQuorum t quorum ≡ true → suc t �
 unfolding isQuorum required
 required-least t quorum h =
     elim (test (eqb quorum 0)) [
-      | inl e ↦ rw e (le-refl (suc t))
+      | inl e ↦ rw e (omega arith)
       | inr e ↦ rw e (within-low (suc t) (size t) quorum (rw e at h))
     ]
 
 -- what the code's tests of the quorum come to
 module _ (t quorum : ℕ) where
-  pub required-0 : quorum ≡ 0 → t + 1 ≡ required t quorum
+  pub required-0 : quorum ≡ 0 → t + 2 ≡ required t quorum
   unfolding required
-  required-0 e = rw (eq-eqb quorum 0 e) (add-one t)
+  required-0 e = rw (eq-eqb quorum 0 e)
 
   pub required-other : (quorum ≡ 0 → ⊥) → quorum ≡ required t quorum
   unfolding required

@@ -5,7 +5,7 @@ use mathlib.Core.List.{List, [], _∷_}
 use lib.ListN.{set, replicate}
 use Rattle.shares.specs.Sample.{sample, keyless}
 use Rattle.voting.specs.Examples.{second, unaccepted}
-use Rattle.reconstruction.specs.Reconstruction.{Opened, unopened, reconstruct}
+use Rattle.reconstruction.specs.Reconstruction.{Opened, unopened, required, reconstruct}
 
 abbrev pub opened : ℕ → ℕ → List ℕ → Opened
 opened survived agreed words = record { number = 0; survivors = survived; agreeing = agreed; secret = words }
@@ -22,9 +22,13 @@ C10Opened = reconstruct 1 1 7 0 (keyless 300) ≡ unopened 1 7 16
 abbrev pub C11 : Type 0
 C11 = reconstruct 1 1 1 0 (sample 259) ≡ unopened 1 0 14
 
--- C12: C5, members 1 and 2 present: 250
+-- C12 (document 02, W-202): C5, members 1 and 2 present, quorum 2: 250
 abbrev pub C12 : Type 0
-C12 = reconstruct 1 1 3 0 (sample 259) ≡ opened 3 3 (250 ∷ [])
+C12 = reconstruct 1 1 3 2 (sample 259) ≡ opened 3 3 (250 ∷ [])
+
+-- the same with quorum 0: 14
+abbrev pub C12Default : Type 0
+C12Default = reconstruct 1 1 3 0 (sample 259) ≡ unopened 1 0 14
 
 -- t = 2, d = 2, all shares zero, but member 4's first word 1 and member 5's second word x
 abbrev pub zeros22 : ℕ → List ℕ
@@ -43,14 +47,22 @@ pub record Examples : Type 0 where
   pub c10-opened : C10Opened
   pub c11 : C11
   pub c12 : C12
+  pub c12-default : C12Default
   pub c13 : C13
   pub c14 : C14
   -- three present and two usable: a quorum of 3 is not met, one of 2 is
   pub quorum-above-usable : reconstruct 1 1 7 3 (second 9 65521) ≡ unopened 1 0 14
   pub quorum-of-usable : reconstruct 1 1 7 2 (second 9 65521) ≡ opened 5 5 (250 ∷ [])
   pub quorum-of-all : reconstruct 1 1 7 3 (sample 259) ≡ opened 7 7 (250 ∷ [])
+  -- quorum 0 stands for t + 2: at t = 1 for all three members, at t = 2 for four of five, at t = 15 for 17 of 31
+  pub default-of-three : reconstruct 1 1 7 0 (sample 259) ≡ opened 7 7 (250 ∷ [])
+  pub default-above-usable : reconstruct 1 1 7 0 (second 9 65521) ≡ unopened 1 0 14
+  pub default-of-four : reconstruct 2 2 23 0 (zeros22 0) ≡ opened 23 23 (0 ∷ 0 ∷ [])
+  pub default-above-three : reconstruct 2 2 7 0 (zeros22 0) ≡ unopened 2 0 14
+  pub quorum-of-three : reconstruct 2 2 7 3 (zeros22 0) ≡ opened 7 7 (0 ∷ 0 ∷ [])
+  pub default-of-17 : required 15 0 ≡ 17
   -- members 4 and 5 are absent: their zeros do not vote, so member 3 has two votes, and then nobody has three
-  pub absent-do-not-vote : reconstruct 2 1 7 0 unaccepted ≡ unopened 1 0 15
+  pub absent-do-not-vote : reconstruct 2 1 7 3 unaccepted ≡ unopened 1 0 15
   pub present-vote : reconstruct 2 1 31 0 unaccepted ≡ opened 31 31 (0 ∷ [])
   -- an input with two faults gets the earlier number
   pub threshold-before-length : reconstruct 0 0 0 0 [] ≡ unopened 0 0 1
@@ -61,5 +73,5 @@ pub record Examples : Type 0 where
   pub bits-before-quorum : reconstruct 1 1 8 1 (sample 259) ≡ unopened 1 0 12
   pub quorum-before-usable : reconstruct 1 1 0 1 (sample 259) ≡ unopened 1 0 13
   pub quorum-above-n : reconstruct 1 1 0 4 (sample 259) ≡ unopened 1 0 13
-  pub usable-before-survivors : reconstruct 1 1 1 0 (second 0 0) ≡ unopened 1 0 14
-  pub no-survivors : reconstruct 1 1 3 0 (second 0 0) ≡ unopened 1 0 15
+  pub usable-before-survivors : reconstruct 1 1 3 0 (second 0 0) ≡ unopened 1 0 14
+  pub no-survivors : reconstruct 1 1 3 2 (second 0 0) ≡ unopened 1 0 15

@@ -1,6 +1,6 @@
 -- Reconstruction (document 01: opening). It goes in two halves: votes from shares, and the answer from votes and share words.
 -- Assumes nothing.
-use Prim.Native.Nat.{ℕ, suc, _*_}
+use Prim.Native.Nat.{ℕ, suc, _+_, _*_}
 use mathlib.Core.Bool.{Bool, cond, _||_, not}
 use mathlib.Core.Option.{Option, none, some}
 use mathlib.Core.List.{List, [], _∷_}
@@ -30,9 +30,9 @@ unopened d survived k = record { number = k; survivors = survived; agreeing = 0;
 unfoldable pub isQuorum : ℕ → ℕ → Bool
 isQuorum t quorum = eqb quorum 0 || within (suc t) (size t) quorum
 
--- how many usable members the quorum asks for: 0 stands for t + 1
+-- how many usable members the quorum asks for: 0 stands for t + 2 (document 02, W-202)
 unfoldable pub required : ℕ → ℕ → ℕ
-required t quorum = cond (eqb quorum 0) (suc t) quorum
+required t quorum = cond (eqb quorum 0) (t + 2) quorum
 
 -- the values of d polynomials at 0
 unfoldable pub atZero : ℕ → (ℕ → List ℕ) → List ℕ

@@ -192,13 +192,13 @@ fn surviving(t: usize, rows: &[u32]) -> u32
     }
 }
 
-// How many usable members the quorum asks for.
+// How many usable members the quorum asks for: 0 stands for one more than t + 1.
 fn required_members(t: usize, quorum: u16) -> usize
     requires { ⌜ t ≤ 15 ⌝ }
     ensures { λ r. ⌜ r ≡ required t quorum ⌝ }
 {
     if quorum == 0 {
-        return t + 1;
+        return t + 2;
     }
     quorum as usize
 }

@@ -19,13 +19,13 @@ fn too_long() {
     prints(&long);
 }
 
-// Opened: the sample, two members, one survivor that does not agree, two words.
+// Opened: the sample, two members by quorum 2, one survivor that does not agree, two words.
 fn opened() {
     prints(
         b"D\t1\t1\t0\nP\t1\t253\t254\t507\t760\t1\t1\t1\t2\t1\t3\nP\t2\t256\t258\t514\t770\t2\t1\t2\t2\t2\t3\nP\t3\t300\t262\t521\t780\t3\t1\t3\t2\t3\t3\n",
     );
     prints(
-        b"D\t1\t1\t0\nP\t2\t256\t258\t514\t770\t2\t1\t2\t2\t2\t3\nP\t1\t253\t254\t507\t760\t1\t1\t1\t2\t1\t3\n",
+        b"D\t1\t1\t2\nP\t2\t256\t258\t514\t770\t2\t1\t2\t2\t2\t3\nP\t1\t253\t254\t507\t760\t1\t1\t1\t2\t1\t3\n",
     );
     prints(
         b"D\t2\t2\t0\n\
@@ -49,14 +49,17 @@ fn unmet() {
     prints(b"D\t1\t1\t0\n");
     prints(b"D\t1\t1\t0\nP\t1\t253\t254\t507\t760\t1\t1\t1\t2\t1\t3\n");
     prints(
-        b"D\t1\t1\t0\nP\t1\t253\t254\t507\t760\t1\t1\t1\t2\t1\t3\nP\t2\t256\t258\t514\t770\t2\t1\t2\t2\t2\t65521\n",
+        b"D\t1\t1\t0\nP\t2\t256\t258\t514\t770\t2\t1\t2\t2\t2\t3\nP\t1\t253\t254\t507\t760\t1\t1\t1\t2\t1\t3\n",
+    );
+    prints(
+        b"D\t1\t1\t2\nP\t1\t253\t254\t507\t760\t1\t1\t1\t2\t1\t3\nP\t2\t256\t258\t514\t770\t2\t1\t2\t2\t2\t65521\n",
     );
 }
 
 // Refused with 15 and 16.
 fn unopened() {
     prints(
-        b"D\t1\t1\t0\nP\t1\t253\t254\t507\t760\t1\t1\t1\t2\t1\t3\nP\t2\t256\t0\t514\t770\t2\t1\t2\t2\t2\t3\n",
+        b"D\t1\t1\t2\nP\t1\t253\t254\t507\t760\t1\t1\t1\t2\t1\t3\nP\t2\t256\t0\t514\t770\t2\t1\t2\t2\t2\t3\n",
     );
     prints(
         b"D\t1\t1\t0\nP\t1\t253\t0\t0\t0\t0\t0\t0\t0\t0\t0\nP\t2\t256\t0\t0\t0\t0\t0\t0\t0\t0\t0\nP\t3\t300\t0\t0\t0\t0\t0\t0\t0\t0\t0\n",

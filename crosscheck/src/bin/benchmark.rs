@@ -39,15 +39,17 @@ fn dealing(secret: Vec<u16>, tape: Vec<u16>) -> Row {
     }
 }
 
+/// With the least quorum.
 fn opening(name: &'static str, present: u32, shares: Vec<u16>, number: u16) -> Row {
+    let quorum = T as u16 + 1;
     let (mut mine, mut theirs) = (vec![0; D], vec![0; D]);
     let other = shares.clone();
     Row {
         name,
-        library: Box::new(move || plain::open(T, present, 0, &shares, black_box(&mut mine)).0),
+        library: Box::new(move || plain::open(T, present, quorum, &shares, black_box(&mut mine)).0),
         reference: Box::new(move || {
             let secret = black_box(&mut theirs);
-            open(T, present, 0, &other, secret, Way::Elimination).number
+            open(T, present, quorum, &other, secret, Way::Elimination).number
         }),
         number,
     }

@@ -94,6 +94,12 @@ fn quorums(round: &mut Round) {
         if quorum > low && quorum == usable + 1 && number == 14 {
             round.ledger.note("open: quorum missed by one");
         }
+        if quorum == 0 && usable == low + 1 && number == 0 {
+            round.ledger.note("open: quorum 0 just met");
+        }
+        if quorum == 0 && usable == low && number == 14 {
+            round.ledger.note("open: quorum 0 missed by one");
+        }
     }
 }
 
@@ -431,6 +437,7 @@ fn nobody_left(round: &mut Round) {
     let station = Station::some(round);
     let mut handed = station.hand_in(&mut round.random);
     handed.present = round.random.choose(station.everybody(), station.t + 1);
+    handed.quorum = station.t as u16 + 1;
     let present = members(handed.present);
     let (i, j) = (round.random.pick(&present), round.random.pick(&present));
     handed.spoil(&mut round.random, i, j);

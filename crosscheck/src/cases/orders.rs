@@ -174,7 +174,7 @@ impl Open {
     /// How many usable members the quorum asks for.
     fn asked(&self) -> usize {
         match self.quorum {
-            0 => self.t + 1,
+            0 => self.t + 2,
             given => given as usize,
         }
     }

@@ -62,7 +62,8 @@ impl Station {
         everybody(self.layout.n)
     }
 
-    /// The shares as dealt, handed in by some members, at least t + 1 of them.
+    /// The shares as dealt, handed in by some members, at least t + 1 of them, with a quorum that
+    /// they meet: t + 1, or 0 if there are more.
     pub fn hand_in(&self, random: &mut Random) -> Handed<'_> {
         let n = self.layout.n;
         let count = match random.below(4) {
@@ -70,11 +71,13 @@ impl Station {
             2 => random.within(self.t + 1, n),
             _ => random.within(self.t + 1, (self.t + 3).min(n)),
         };
+        let least = self.t + 1;
+        let default = count > least && random.coin();
         Handed {
             station: self,
             shares: self.shares.clone(),
             present: random.choose(self.everybody(), count),
-            quorum: 0,
+            quorum: if default { 0 } else { least as u16 },
         }
     }
 }

@@ -24,12 +24,17 @@ fn numbered_keys() -> [u16; 18] {
     [1, 1, 1, 2, 1, 3, 2, 1, 2, 2, 2, 3, 3, 1, 3, 2, 3, 3]
 }
 
+/// With quorum 0.
 fn opened(t: usize, present: u32, shares: &[u16], d: usize) -> (Opening, Vec<u16>) {
+    opened_by(0, t, present, shares, d)
+}
+
+fn opened_by(quorum: u16, t: usize, present: u32, shares: &[u16], d: usize) -> (Opening, Vec<u16>) {
     let mut secret = vec![9; d];
-    let opening = open(t, present, 0, shares, &mut secret, Way::Elimination);
+    let opening = open(t, present, quorum, shares, &mut secret, Way::Elimination);
     let mut again = vec![9; d];
     assert_eq!(
-        open(t, present, 0, shares, &mut again, Way::Subsets),
+        open(t, present, quorum, shares, &mut again, Way::Subsets),
         opening
     );
     assert_eq!(secret, again);
@@ -92,7 +97,27 @@ fn c10_to_c12() {
     assert_eq!(opened(1, 7, &shares, 1), (expected(16, 7, 0), vec![65535]));
     let shares = c5(numbered_keys());
     assert_eq!(opened(1, 1, &shares, 1), (expected(14, 0, 0), vec![65535]));
-    assert_eq!(opened(1, 3, &shares, 1), (expected(0, 3, 3), vec![250]));
+    assert_eq!(
+        opened_by(2, 1, 3, &shares, 1),
+        (expected(0, 3, 3), vec![250])
+    );
+    assert_eq!(opened(1, 3, &shares, 1), (expected(14, 0, 0), vec![65535]));
+}
+
+#[test]
+fn quorum_0_asks_for_a_spare() {
+    for t in 1..=15 {
+        let (n, least) = (2 * t + 1, t as u16 + 1);
+        let shares = vec![0; n * (1 + 3 * n)];
+        let number = |count: usize, quorum: u16| {
+            let present = (1 << count) - 1;
+            open(t, present, quorum, &shares, &mut [9], Way::Elimination).number
+        };
+        assert_eq!(number(t + 2, 0), 0);
+        assert_eq!(number(t + 1, 0), 14);
+        assert_eq!(number(t + 1, least), 0);
+        assert_eq!(number(n, least - 1), 13);
+    }
 }
 
 #[test]

@@ -163,7 +163,7 @@ pub fn open(
         Err(number) => return refused(number),
     };
     let usable = usable(layout, present, shares);
-    let asked = if quorum == 0 { t + 1 } else { quorum as usize };
+    let asked = if quorum == 0 { t + 2 } else { quorum as usize };
     if (usable.count_ones() as usize) < asked {
         return refused(14);
     }
