@@ -30,10 +30,13 @@ shares t values = concat (map (λ v. v ∷ replicate (3 * size t) 0) values)
 abbrev pub random : ℕ → List ℕ → List ℕ
 random t coefficients = coefficients ++ replicate (2 * (size t * size t)) 0
 
--- t = 2 and the polynomial 100 + 7x + 3x², with the values 110, 126, 148, 176, 210
+-- t = 2 and the polynomial 100 + 7x + 3x²: its values, and what is handed in for them
+abbrev pub fiveValues : List ℕ
+fiveValues = 110 ∷ 126 ∷ 148 ∷ 176 ∷ 210 ∷ []
+
 abbrev pub FiveOf : List ℕ → ℕ → ℕ → ℕ → Opened → ℕ → ℕ → Type 0
 FiveOf values present quorum honest answer changed extra =
-    Instance 2 (100 ∷ []) (random 2 (7 ∷ 3 ∷ [])) (shares 2 (110 ∷ 126 ∷ 148 ∷ 176 ∷ 210 ∷ [])) (shares 2 values) present quorum honest answer changed extra
+    Instance 2 (100 ∷ []) (random 2 (7 ∷ 3 ∷ [])) (shares 2 fiveValues) (shares 2 values) present quorum honest answer changed extra
 
 -- all five present, with quorum 0
 abbrev pub Five : List ℕ → ℕ → Opened → ℕ → Type 0
@@ -42,8 +45,7 @@ Five values honest answer changed = FiveOf values 31 0 honest answer changed 2
 -- all that are present are as dealt
 abbrev pub Unaltered : ℕ → ℕ → ℕ → Type 0
 Unaltered present quorum extra =
-    FiveOf (110 ∷ 126 ∷ 148 ∷ 176 ∷ 210 ∷ []) present quorum present
-    (record { number = 0; survivors = present; agreeing = present; secret = 100 ∷ [] }) 0 extra
+    FiveOf fiveValues present quorum present (record { number = 0; survivors = present; agreeing = present; secret = 100 ∷ [] }) 0 extra
 
 -- t = 3 and the polynomial 250 + x + 2x² + 3x³, with the values 256, 284, 352, 478, 680, 976, 1384
 abbrev pub Seven : List ℕ → ℕ → Opened → ℕ → Type 0
@@ -55,7 +57,7 @@ pub record Instances : Type 0 where
   pub by-default : Unaltered 15 0 1
   pub no-spare : Unaltered 7 3 0
   -- t + 1 do not meet quorum 0: that the quorum is met is needed, also where every share is as dealt
-  pub unmet : reconstruct 2 1 7 0 (shares 2 (110 ∷ 126 ∷ 148 ∷ 176 ∷ 210 ∷ [])) ≡ unopened 1 0 14
+  pub unmet : reconstruct 2 1 7 0 (shares 2 fiveValues) ≡ unopened 1 0 14
   -- quorum t + 1, and a survivor altered beside t + 1 as dealt
   pub altered-by-quorum : FiveOf (110 ∷ 126 ∷ 148 ∷ 0 ∷ 210 ∷ []) 15 3 7 (unopened 1 15 16) 1 1
   -- an altered survivor, at most half the surplus: the dealt secret

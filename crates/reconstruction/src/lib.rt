@@ -192,7 +192,7 @@ fn surviving(t: usize, rows: &[u32]) -> u32
     }
 }
 
-// How many usable members the quorum asks for: 0 stands for one more than t + 1.
+// How many usable members the quorum asks for: 0 stands for t + 2.
 fn required_members(t: usize, quorum: u16) -> usize
     requires { ⌜ t ≤ 15 ⌝ }
     ensures { λ r. ⌜ r ≡ required t quorum ⌝ }
