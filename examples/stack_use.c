@@ -199,7 +199,7 @@ static void prune_rows(void)
     rows_len = n;
     for (size_t i = 0; i < n; i++) rows[i] = (uint32_t)((1u << n) - 1);
     measure(&prune, RUTZEBAM_OK);
-    for (size_t i = t; i < n; i++) rows[i] = 0; /* t members are left, too few, in the second round */
+    for (size_t i = t; i < n; i++) rows[i] = 0; /* t members are left, too few: they are struck too */
     measure(&prune, RUTZEBAM_OK);
     rows[0] = 0x80000000u;
     measure(&prune, RUTZEBAM_MEMBER_BEYOND_N);

@@ -40,8 +40,8 @@ extern "C" {
 
 #define RUTZEBAM_VERSION_MAJOR 2
 #define RUTZEBAM_VERSION_MINOR 0
-#define RUTZEBAM_VERSION_PATCH 0
-#define RUTZEBAM_VERSION "2.0.0"
+#define RUTZEBAM_VERSION_PATCH 1
+#define RUTZEBAM_VERSION "2.0.1"
 
 /* How many words a share has: d share words, n tags and n keys of two words. */
 #define RUTZEBAM_SHARE_WORDS(t, d) ((d) + 3 * (2 * (t) + 1))
@@ -86,8 +86,8 @@ extern "C" {
    deepest chain of calls, in the code that `rt staticlib` writes for x86-64; the figures are those
    sums rounded up to a multiple of 256. examples/stack_use.c looks that no call takes more. */
 #define RUTZEBAM_DEAL_STACK_BYTES 768    /* (568) */
-#define RUTZEBAM_OPEN_STACK_BYTES 1792   /* (1688) */
-#define RUTZEBAM_PRUNE_STACK_BYTES 256   /* (32) */
+#define RUTZEBAM_OPEN_STACK_BYTES 1792   /* (1704) */
+#define RUTZEBAM_PRUNE_STACK_BYTES 256   /* (224) */
 #define RUTZEBAM_DECODE_STACK_BYTES 1280 /* (1144) */
 #define RUTZEBAM_TAG_STACK_BYTES 256     /* (40) */
 #define RUTZEBAM_READ_STACK_BYTES 768    /* (536) */

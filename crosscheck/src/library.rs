@@ -330,6 +330,13 @@ pub mod plain {
         (number, survivors, agreeing)
     }
 
+    /// The refusal number and the survivors.
+    pub fn prune(t: usize, rows: &[u32]) -> (u16, u32) {
+        let mut survivors = 0;
+        let number = unsafe { super::rutzebam_prune(t, rows.as_ptr(), rows.len(), &mut survivors) };
+        (number, survivors)
+    }
+
     /// The refusal number and the present mask.
     pub fn read(text: &[u8], words: &mut [u16]) -> (u16, u32) {
         let (mut t, mut d, mut quorum, mut present) = (0, 0, 0, 0);

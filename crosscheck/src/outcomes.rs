@@ -33,6 +33,7 @@ const CLASSES: &[&str] = &[
     "prune: some survive",
     "prune: all survive",
     "prune: one strike brings another",
+    "prune: one short member brings all down",
     "decode: decoded at half the surplus",
     "decode: 16 one beyond half the surplus",
     "decode: above 65520 outside the set",

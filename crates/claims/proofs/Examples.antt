@@ -44,6 +44,7 @@ corners =
       shares = Shares.examples;
       voting = Voting.examples;
       pruning = Pruning.examples;
+      strikes = Pruning.strikes;
       decoding = Decoding.examples;
       dealing = Dealing.examples;
       reconstruction = Reconstruction.examples;

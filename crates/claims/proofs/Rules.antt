@@ -1,4 +1,4 @@
--- What document 01 says of its rules, from the laws of field, pruning and decoding.
+-- What documents 01 and 02 say of their rules, from the laws of field, pruning and decoding.
 -- Assumes nothing.
 use mathlib.Core.Path.{_≡_, sym, _∙_}
 use mathlib.Core.Logic.{inl, inr}
@@ -15,7 +15,8 @@ use Rattle.field.proofs.Operations.{product-word, product-same}
 use Rattle.field.proofs.Fermat.{is-prime, inverse-law, inverse-word}
 use Rattle.members.specs.Members.{size, has, setOf}
 use Rattle.members.proofs.Masks.{has-setOf, setOf-lt}
-use Rattle.pruning.specs.Pruning.{votes, survivors, Closed}
+use Rattle.pruning.specs.Pruning.{survivors, Closed}
+use Rattle.pruning.proofs.Counts.{votes-apart}
 use Rattle.pruning.proofs.Largest.{Above, votes-mono, above-strike, above-all, largest-unique, survivors-largest, survivors-size, struck-survivors}
 use Rattle.decoding.proofs.Search.{find-found, find-complete}
 use Rattle.decoding.proofs.Unique.{fits-value}
@@ -61,6 +62,7 @@ rules =
       survivors-size = survivors-size;
       any-order = λ t rows end s closed.
           struck-survivors t rows end (struck-below t rows s (setOf-lt (size t) (λ i. true))) (struck-above t rows s (above-all t rows)) closed;
+      subtracting = votes-apart;
       found-fits = λ xs t d y set fs e. find-found xs t d y set fs e .fits;
       finds = λ xs t d y set p. find-complete xs (points-distinct p) t (p .long) d y set;
       never-two = λ xs t d y set p. fits-value xs (points-distinct p) t (p .long) d y set;

@@ -19,7 +19,7 @@ pub record Claims : Type 0 where
   pub at-most : AtMost
   pub always-fits : AlwaysFits
   pub hand-in-instances : HandInInstances
-  -- what document 01 says of its rules
+  -- what documents 01 and 02 say of their rules
   pub rules : Rules
   -- C1 to C14, and the corners
   pub examples : Examples

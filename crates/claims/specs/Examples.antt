@@ -40,7 +40,7 @@ pub record Examples : Type 0 where
   pub c13 : C13
   pub c14 : C14
 
--- the order of refusals of every call, and what the words' limits, roundings and places are
+-- the order of refusals of every call, and what the words' limits, roundings and places are; counts before and after a strike
 pub record Corners : Type 0 where
   pub field : Field.Examples
   pub polynomial : Polynomial.Examples
@@ -49,6 +49,7 @@ pub record Corners : Type 0 where
   pub shares : Shares.Examples
   pub voting : Voting.Examples
   pub pruning : Pruning.Examples
+  pub strikes : Pruning.Strikes
   pub decoding : Decoding.Examples
   pub dealing : Dealing.Examples
   pub reconstruction : Reconstruction.Examples

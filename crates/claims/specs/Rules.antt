@@ -1,13 +1,14 @@
--- What document 01 says of its rules beside stating them. Proved in proofs/Rules.antt.
-use Prim.Native.Nat.{ℕ, suc, _%_, _^_, _≤_, _<_}
+-- What documents 01 and 02 say of their rules beside stating them. Proved in proofs/Rules.antt.
+use Prim.Native.Nat.{ℕ, suc, _+_, _%_, _^_, _≤_, _<_}
 use mathlib.Core.Path.{_≡_}
 use mathlib.Core.Logic.{_⊎_}
-use mathlib.Core.Bool.{true, _||_}
+use mathlib.Core.Bool.{true, cond, _||_}
 use mathlib.Core.Option.{some}
 use mathlib.Core.List.{List}
+use lib.ListN.{getD}
 use Rattle.field.specs.Field.{prime, product, inverse}
 use Rattle.polynomial.specs.Polynomial.{value}
-use Rattle.members.specs.Members.{size, has, setOf, card}
+use Rattle.members.specs.Members.{size, has, setOf, card, striking}
 use Rattle.pruning.specs.Pruning.{votes, survivors, Closed, Largest}
 use Rattle.decoding.specs.Decoding.{Fits, nth, find}
 use Rattle.claims.specs.General.{Points}
@@ -41,6 +42,9 @@ pub record Rules : Type 0 where
   pub survivors-size : (t : ℕ) (rows : List ℕ) → (survivors t rows ≡ 0) ⊎ (suc t ≤ card (size t) (survivors t rows))
   -- the order of striking is free: whatever was struck, once everyone left has t + 1 votes of those left, these are the survivors
   pub any-order : (t : ℕ) (rows : List ℕ) (end : ℕ) → Struck t rows (setOf (size t) (λ i. true)) end → Closed t rows end → end ≡ survivors t rows
+  -- striking member i takes its vote from each whom it accepted, and nothing else (document 02, W-203)
+  pub subtracting : (t : ℕ) (rows : List ℕ) (set i : ℕ) → t ≤ 15 → i < size t → has set i ≡ true
+      → (k : ℕ) → votes t rows set k ≡ cond (has (getD rows k 0) i) 1 0 + votes t rows (striking set i) k
   -- what is found fits
   pub found-fits : (xs : List ℕ) (t d : ℕ) (y : ℕ → ℕ → ℕ) (set : ℕ) (fs : List (List ℕ)) → find xs t d y set ≡ some fs → Fits xs t d y set (nth fs)
   -- polynomials are found if any fit, at any distinct points

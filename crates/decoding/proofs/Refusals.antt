@@ -5,7 +5,6 @@ use mathlib.Core.Bool.{Bool, true, false, _||_, not}
 use mathlib.Core.Option.{Option, none, some}
 use mathlib.Core.List.{List, [], _∷_}
 use Prim.Native.Nat.{ℕ, suc, _+_, _≤_, _<_, _^_, zero-le, suc-le-suc}
-use native.Mathlib.Nat.{le-trans, le-suc}
 use native.Mathlib.Numerals.{add-one}
 use native.Mathlib.Omega.{arith}
 use lib.Dec.{leb, eqb}
@@ -17,7 +16,7 @@ use Rattle.lists.specs.Checks.{Check, _unless_, checked}
 use Rattle.lists.proofs.Checks.{check-fails, check-passes, number-fits, within-high}
 use Rattle.field.specs.Field.{isFieldWord}
 use Rattle.members.specs.Members.{isThreshold, size, ownPoints, has, isSet, card, firstOf}
-use Rattle.members.proofs.Words.{size-31, size-le, firstOf-isSet, firstOf-power, card-32}
+use Rattle.members.proofs.Words.{size-32, size-le, firstOf-isSet, firstOf-power, card-32}
 use Rattle.decoding.specs.Decoding.{find, Decoded, undecoded, decodedFrom, decode}
 
 -- the value of member i, if it is in the set, is a field word
@@ -177,4 +176,4 @@ t-most t th e ok = within-high 1 15 t (passes th _ e ok)
 
 pub proper-set : (t set n first : ℕ) → t ≤ 15 → n ≡ size t → first ≡ firstOf n → set ≤ first → set < 2 ^ size t
 proper-set t set n first small n-is first-is l =
-    omega (arith, first-is ∙ ap firstOf n-is, firstOf-power (size t) (le-trans (size-31 t small) (le-suc 31)))
+    omega (arith, first-is ∙ ap firstOf n-is, firstOf-power (size t) (size-32 t small))

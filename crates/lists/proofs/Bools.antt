@@ -52,6 +52,10 @@ pub or-yes : (a b : Bool) → b ≡ true → a || b ≡ true
 or-yes true b h = refl
 or-yes false b h = h
 
+pub and-yes : (a b : Bool) → b ≡ true → a && b ≡ a
+and-yes true b h = h
+and-yes false b h = refl
+
 pub and-no : (a b : Bool) → b ≡ false → a && b ≡ false
 and-no true b h = h
 and-no false b h = refl

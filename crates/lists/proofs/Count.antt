@@ -1,13 +1,14 @@
 -- Laws of `count`.
 -- Assumes nothing.
-use mathlib.Core.Path.{_≡_, refl, ap, ap₂}
+use mathlib.Core.Path.{_≡_, refl, sym, ap, ap₂, _∙_}
 use mathlib.Core.Logic.{inl, inr}
 use mathlib.Core.Bool.{Bool, true, false, _&&_, not, cond, false≢true}
 use Prim.Native.Nat.{ℕ, zero, suc, _+_, _≤_, _<_, zero-le, suc-le-suc}
 use native.Mathlib.Nat.{not-suc-le-zero, le-of-suc-le-suc, not-le-of-lt}
 use native.Mathlib.Omega.{arith}
+use lib.Dec.{eqb, eqb·zero-suc, eqb·suc-zero, eqb·suc-suc}
 use Rattle.lists.specs.Tabulate.{count}
-use Rattle.lists.proofs.Bools.{test}
+use Rattle.lists.proofs.Bools.{test, and-yes, and-no}
 
 -- a test as a number: 1 where it passes
 abbrev pub toℕ : Bool → ℕ
@@ -115,3 +116,18 @@ pub count-last : (n : ℕ) (p : ℕ → Bool) → count (suc n) p ≡ count n p 
 unfolding count
 count-last zero p = omega arith
 count-last (suc n) p = omega (arith, count-last n (λ i. p (suc i)))
+
+-- one place apart
+pub count-at : (n : ℕ) (p : ℕ → Bool) (k : ℕ) → k < n → count n p ≡ toℕ (p k) + count n (λ i. p i && not (eqb i k))
+unfolding count
+count-at zero p k h = absurd (not-suc-le-zero h)
+count-at (suc n) p zero h =
+    let e : toℕ (p 0 && not (eqb 0 0)) ≡ 0 = ap toℕ (and-no (p 0) (not (eqb 0 0)) refl) in
+    omega (arith, e, count-ext n (λ i. p (suc i)) (λ i. p (suc i) && not (eqb (suc i) 0)) (λ i l. sym (and-yes (p (suc i)) (not (eqb (suc i) 0)) (ap not (eqb·suc-zero i)))))
+count-at (suc n) p (suc k) h =
+    omega (
+      arith,
+      ap toℕ (and-yes (p 0) (not (eqb 0 (suc k))) (ap not (eqb·zero-suc k))),
+      count-at n (λ i. p (suc i)) k (le-of-suc-le-suc h),
+      count-ext n (λ i. p (suc i) && not (eqb (suc i) (suc k))) (λ i. p (suc i) && not (eqb i k)) (λ i l. ap (λ (b : Bool). p (suc i) && not b) (eqb·suc-suc i k)),
+    )

@@ -2,7 +2,7 @@
 -- Assumes nothing.
 use mathlib.Core.Path.{_≡_, refl, sym, ap, ap₂, _∙_}
 use mathlib.Core.Bool.{Bool, true, false, _&&_, _||_, not}
-use Prim.Native.Nat.{ℕ, zero, suc, _+_, _*_, _/_, _%_, _^_, _≤_, _<_, min, max, zero-le, suc-le-suc}
+use Prim.Native.Nat.{ℕ, zero, suc, _+_, _-_, _*_, _/_, _%_, _^_, _≤_, _<_, min, max, zero-le, suc-le-suc}
 use native.Mathlib.Nat.{not-suc-le-zero, le-of-suc-le-suc, le-trans, mod-lt, div-one, zero-lt-suc}
 use native.Mathlib.Omega.{arith}
 use lib.Dec.{eqb, eqb·zero-suc, eqb·suc-zero, eqb·suc-suc}
@@ -11,7 +11,7 @@ use lib.Pow.{pow-pos, shr-shr}
 use lib.Bits.{bitAnd, bitOr, and-step, or-step, and-lt}
 use lib.Count.{ones, ones-step}
 use Rattle.lists.specs.Tabulate.{count}
-use Rattle.lists.proofs.Bools.{test, clash, same-test}
+use Rattle.lists.proofs.Bools.{clash, same-test}
 use Rattle.lists.proofs.Count.{toℕ, count-le, count-mono, count-ext, count-back, count-more, count-some}
 use Rattle.members.specs.Members.{bit, has, setOf, card}
 
@@ -180,6 +180,24 @@ has-or zero a b =
 has-or (suc i) a b =
     ap (λ (x : ℕ). has x i) (step-half (bitOr a b) (bitOr (a / 2) (b / 2)) (max (a % 2) (b % 2)) (max-lt (a % 2) (b % 2) (mod2 a) (mod2 b)) (or-step a b))
     ∙ has-or i (a / 2) (b / 2)
+
+low-other : (r m : ℕ) → m < 2 ^ suc r → (2 ^ suc r - 1 - m) % 2 ≡ 1 - m % 2
+low-other r m h = omega arith
+
+half-other : (r m : ℕ) → m < 2 ^ suc r → (2 ^ suc r - 1 - m) / 2 ≡ 2 ^ r - 1 - m / 2
+half-other r m h = omega arith
+
+other : (x : ℕ) → x < 2 → eqb (1 - x) 1 ≡ not (eqb x 1)
+other zero h = refl
+other (suc zero) h = refl
+other (suc (suc x)) h = absurd (not-suc-le-zero (le-of-suc-le-suc (le-of-suc-le-suc h)))
+
+-- those of n members that are not in the set
+pub has-not : (n m i : ℕ) → m < 2 ^ n → i < n → has (2 ^ n - 1 - m) i ≡ not (has m i)
+unfolding has bit
+has-not zero m i h k = absurd (not-suc-le-zero k)
+has-not (suc n) m zero h k = ap (λ (x : ℕ). eqb x 1) (low-other n m h) ∙ other (m % 2) (mod2 m)
+has-not (suc n) m (suc i) h k = ap (λ (x : ℕ). has x i) (half-other n m h) ∙ has-not n (m / 2) i (half-lt n m h) (le-of-suc-le-suc k)
 
 -- the members that two sets have in common, counted
 pub ones-and : (n a b : ℕ) → a < 2 ^ n → b < 2 ^ n → ones (bitAnd a b) ≡ count n (λ j. has a j && has b j)

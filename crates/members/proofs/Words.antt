@@ -2,22 +2,23 @@
 -- Assumes nothing.
 use mathlib.Core.Path.{_≡_, refl, sym, ap, _∙_, subst}
 use mathlib.Core.Logic.{_⊎_, inl, inr}
-use mathlib.Core.Bool.{Bool, true, false, _&&_, _||_, cond, and-true}
-use Prim.Native.Nat.{ℕ, zero, suc, _+_, _*_, _/_, _^_, _≤_, _<_, zero-le, suc-le-suc}
-use native.Mathlib.Nat.{le-refl, le-suc, le-of-eq, le-of-suc-le-suc, eq-or-lt-of-le, lt-of-lt-of-le, lt-irrefl}
+use mathlib.Core.Bool.{Bool, true, false, _&&_, _||_, not, cond}
+use Prim.Native.Nat.{ℕ, zero, suc, _+_, _-_, _/_, _^_, _≤_, _<_, zero-le, suc-le-suc}
+use native.Mathlib.Nat.{le-refl, le-suc, le-of-eq, le-of-suc-le-suc, eq-or-lt-of-le, lt-of-lt-of-le, lt-of-le-of-lt, le-trans, lt-irrefl}
 use native.Mathlib.Numerals.{add-one}
 use native.Mathlib.Omega.{arith}
 use lib.Dec.{eqb, ltb, leb, leb·suc-suc}
-use lib.Bits.{bitAnd, bitOr, and-mask, or-lt}
+use lib.Arith.{lt-of-le-ne}
+use lib.Bits.{bitAnd, bitOr, and-mask, and-le-l, or-lt}
 use lib.Count.{ones}
 use lib.Pow.{pow-mono, pow-lt}
-use borrow.Author.Tests.{eqb-true, eqb-false, ne-eqb, lt-ltb, le-ltb, ltb-true, ltb-false}
+use borrow.Author.Tests.{eq-eqb, eqb-true, eqb-false, ne-eqb, lt-ltb, le-ltb, ltb-true, ltb-false}
 use Rattle.lists.specs.Tabulate.{count}
-use Rattle.lists.proofs.Bools.{test, or-no, or-yes, and-no}
+use Rattle.lists.proofs.Bools.{test, clash, or-no, or-yes, and-yes, and-no}
 use Rattle.lists.proofs.Checks.{within-high}
 use Rattle.lists.proofs.Count.{count-more}
-use Rattle.members.specs.Members.{isThreshold, size, has, setOf, isSet, card, adding, firstOf, common}
-use Rattle.members.proofs.Masks.{has-setOf, setOf-lt, setOf-has, setOf-ext, same-members, has-above, has-or, has-power, has-shift, ones-and, suc-everyone, card-more}
+use Rattle.members.specs.Members.{isThreshold, size, has, setOf, isSet, card, adding, striking, firstOf, common}
+use Rattle.members.proofs.Masks.{has-setOf, setOf-lt, setOf-has, setOf-ext, same-members, has-above, has-and, has-or, has-not, has-power, has-shift, ones-and, suc-everyone, card-more}
 
 -- ---- what the code computes
 
@@ -39,9 +40,37 @@ unfolding adding
 adding-beyond m i h k =
     sym (setOf-ext 32 (λ j. has m j || eqb j i) (has m) (λ j l. or-no (has m j) (eqb j i) (apart i j l k)) ∙ setOf-has 32 m h)
 
+pub striking-and : (m i : ℕ) → m < 2 ^ 32 → i < 32 → bitAnd m (4294967295 - 2 ^ i) ≡ striking m i
+unfolding striking
+striking-and m i h k =
+    same-members 32 (bitAnd m (4294967295 - 2 ^ i)) (setOf 32 (λ j. has m j && not (eqb j i))) (lt-of-le-of-lt (and-le-l m (4294967295 - 2 ^ i)) h)
+    (setOf-lt 32 (λ j. has m j && not (eqb j i)))
+    (λ j l. has-and j m (4294967295 - 2 ^ i) ∙ ap (λ (b : Bool). has m j && b) (has-not 32 (2 ^ i) j (pow-lt k) l ∙ ap not (has-power i j))
+    ∙ sym (has-setOf 32 (λ x. has m x && not (eqb x i)) j l))
+
+pub striking-beyond : (m i : ℕ) → m < 2 ^ 32 → 32 ≤ i → m ≡ striking m i
+unfolding striking
+striking-beyond m i h k =
+    sym (setOf-ext 32 (λ j. has m j && not (eqb j i)) (has m) (λ j l. and-yes (has m j) (not (eqb j i)) (ap not (apart i j l k))) ∙ setOf-has 32 m h)
+
 pub common-ones : (a b : ℕ) → a < 2 ^ 32 → b < 2 ^ 32 → ones (bitAnd a b) ≡ common a b
 unfolding common
 common-ones a b ha hb = ones-and 32 a b ha hb
+
+-- ---- a set without one of its members
+
+pub has-striking : (m i j : ℕ) → j < 32 → has (striking m i) j ≡ has m j && not (eqb j i)
+unfolding striking
+has-striking m i j l = has-setOf 32 (λ x. has m x && not (eqb x i)) j l
+
+pub striking-le : (m i : ℕ) → m < 2 ^ 32 → i < 32 → striking m i ≤ m
+striking-le m i h k = le-trans (le-of-eq (sym (striking-and m i h k))) (and-le-l m (4294967295 - 2 ^ i))
+
+-- it is a smaller number
+pub striking-less : (m i : ℕ) → m < 2 ^ 32 → i < 32 → has m i ≡ true → striking m i < m
+striking-less m i h k y =
+    lt-of-le-ne (striking-le m i h k)
+    (λ e. clash y (sym (ap (λ (x : ℕ). has x i) e) ∙ has-striking m i i k ∙ and-no (has m i) (not (eqb i i)) (ap not (eq-eqb i i refl))))
 
 -- ---- the same operations on n members, n at most 32
 
@@ -58,6 +87,9 @@ firstOf-all n l =
 
 pub firstOf-power : (n : ℕ) → n ≤ 32 → suc (firstOf n) ≡ 2 ^ n
 firstOf-power n l = ap suc (firstOf-all n l) ∙ suc-everyone n
+
+pub firstOf-lt : (n : ℕ) → n ≤ 32 → firstOf n < 2 ^ n
+firstOf-lt n l = le-of-eq (firstOf-power n l)
 
 pub firstOf-beyond : (n : ℕ) → 32 ≤ n → suc (firstOf n) ≡ 2 ^ 32
 unfolding firstOf
@@ -104,7 +136,7 @@ setOf-with n p l y =
     before j = p j && ltb j n
 
     first : (j : ℕ) → j < n → before j ≡ p j
-    first j k = ap (λ (b : Bool). p j && b) (lt-ltb j n k) ∙ and-true (p j)
+    first j k = and-yes (p j) (ltb j n) (lt-ltb j n k)
 
     below : (j : ℕ) → (j ≡ n → ⊥) → (j ≡ n) ⊎ (j < n) → j < n
     below j ne (inl e) = absurd (ne e)
@@ -123,12 +155,11 @@ pub size-31 : (t : ℕ) → t ≤ 15 → size t ≤ 31
 unfolding size
 size-31 t h = omega arith
 
+pub size-32 : (t : ℕ) → t ≤ 15 → size t ≤ 32
+size-32 t h = le-trans (size-31 t h) (le-suc 31)
+
 pub size-le : (t : ℕ) → isThreshold t ≡ true → size t ≤ 31
 size-le t h = size-31 t (within-high 1 15 t h)
-
-pub size-of : (t : ℕ) → 2 * t + 1 ≡ size t
-unfolding size
-size-of t = refl
 
 -- a loop that builds a set takes each member or leaves it
 pub setOf-step : (n : ℕ) (p : ℕ → Bool) (b : Bool) → n < 32 → b ≡ p n → cond b (adding (setOf n p) n) (setOf n p) ≡ setOf (n + 1) p
@@ -142,4 +173,4 @@ setOf-none (suc n) p h = rw (h 0 (suc-le-suc zero-le), setOf-none n (λ i. p (su
 
 -- all of a mask's bits are those of the n members, where it has none beyond
 pub card-32 : (t set : ℕ) → t ≤ 15 → set < 2 ^ size t → card 32 set ≡ card (size t) set
-card-32 t set small h = card-more (size t) 32 set h (omega (arith, size-31 t small))
+card-32 t set small h = card-more (size t) 32 set h (size-32 t small)

@@ -4,7 +4,7 @@ use mathlib.Core.Path.{_≡_}
 use mathlib.Core.Bool.{true, false}
 use mathlib.Core.List.{[], _∷_}
 use lib.Dec.{eqb}
-use Rattle.members.specs.Members.{size, ownPoints, has, setOf, isSet, card, membersOf, adding, firstOf, common}
+use Rattle.members.specs.Members.{size, ownPoints, has, setOf, isSet, card, membersOf, adding, striking, firstOf, common}
 
 pub record Examples : Type 0 where
   -- document 01's member 1 has the value 1, member 2 the value 2, member 3 the value 4
@@ -26,6 +26,10 @@ pub record Examples : Type 0 where
   pub add-again : adding 5 2 ≡ 5
   pub add-last : adding 5 31 ≡ 2 ^ 31 + 5
   pub add-beyond : adding 5 32 ≡ 5
+  pub strike-second : striking 7 1 ≡ 5
+  pub strike-again : striking 5 1 ≡ 5
+  pub strike-last : striking (2 ^ 31 + 5) 31 ≡ 5
+  pub strike-beyond : striking 5 32 ≡ 5
   pub first-3 : firstOf 3 ≡ 7
   pub first-0 : firstOf 0 ≡ 0
   pub first-33 : firstOf 33 ≡ 2 ^ 32 - 1

@@ -1,7 +1,7 @@
 -- A station's members, and sets of them as masks. Here members are counted from 0: document 01's member i is i − 1, with the value 2 ^ (i − 1).
 -- Assumes nothing.
 use Prim.Native.Nat.{ℕ, zero, suc, _+_, _*_, _/_, _%_, _^_}
-use mathlib.Core.Bool.{Bool, cond, _&&_, _||_}
+use mathlib.Core.Bool.{Bool, cond, _&&_, _||_, not}
 use mathlib.Core.List.{List}
 use lib.Dec.{eqb, ltb}
 use Rattle.lists.specs.Tabulate.{tab, count, keep}
@@ -50,6 +50,10 @@ membersOf n mask = keep (has mask) (tab n (λ i. i))
 -- the set with member i; one that a mask cannot hold is left out
 unfoldable pub adding : ℕ → ℕ → ℕ
 adding mask i = setOf 32 (λ j. has mask j || eqb j i)
+
+-- the set without member i
+unfoldable pub striking : ℕ → ℕ → ℕ
+striking mask i = setOf 32 (λ j. has mask j && not (eqb j i))
 
 -- the first n members, or the 32 that a mask can hold
 unfoldable pub firstOf : ℕ → ℕ

@@ -3,7 +3,7 @@ ghost use mathlib.Core.Path.{_≡_};
 ghost use Prim.Native.Nat.{suc, _<_, _≤_, _^_};
 ghost use lib.ListN.{length};
 ghost use Rattle.lists.specs.Tabulate.{tab};
-ghost use Rattle.members.specs.Members.{isThreshold, size, has, card, adding, firstOf, common};
+ghost use Rattle.members.specs.Members.{isThreshold, size, has, card, adding, striking, firstOf, common};
 
 // A station's threshold is 1 to 15.
 pub fn threshold(t: usize) -> bool
@@ -55,9 +55,19 @@ pub fn with(set: u32, i: usize) -> u32
     ensures { λ r. ⌜ r ≡ adding set i ⌝ }
 {
     if 32 <= i {
-        return set;
+        return set; // a mask has no room for it
     }
     set | only(i)
+}
+
+// The set without member i.
+pub fn without(set: u32, i: usize) -> u32
+    ensures { λ r. ⌜ r ≡ striking set i ⌝ }
+{
+    if 32 <= i {
+        return set; // it is not in
+    }
+    set & !only(i)
 }
 
 // The first n members, or the 32 that a mask can hold.

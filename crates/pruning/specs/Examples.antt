@@ -1,9 +1,11 @@
--- Document 01's examples of pruning, and corners that they leave open. Proved in proofs/Examples.antt.
-use Prim.Native.Nat.{ℕ, _^_}
+-- Document 01's examples of pruning, corners that they leave open, and counts before and after a strike. Proved in proofs/Examples.antt.
+use Prim.Native.Nat.{ℕ, _+_, _-_, _^_}
 use mathlib.Core.Path.{_≡_}
 use mathlib.Core.List.{[], _∷_}
 use lib.ListN.{replicate}
-use Rattle.pruning.specs.Pruning.{Pruned, prune}
+use Rattle.members.specs.Members.{striking}
+use Rattle.pruning.specs.Pruning.{Pruned, votes, prune}
+use Rattle.pruning.specs.Counts.{counted, AfterStrike}
 
 -- the answers: survivors, or a refusal
 abbrev pub left : ℕ → Pruned
@@ -44,3 +46,19 @@ pub record Examples : Type 0 where
   -- strikes that go on for four rounds; then exactly t + 1 votes
   pub chain : prune 2 (31 ∷ 31 ∷ 13 ∷ 26 ∷ 24 ∷ []) ≡ left 0
   pub just-enough : prune 2 (7 ∷ 7 ∷ 7 ∷ 24 ∷ 24 ∷ []) ≡ left 7
+
+-- counts before and after a strike
+pub record Strikes : Type 0 where
+  -- C6's counts, and those after member 3 is struck: one vote fewer for members 2 and 3, whom it accepted
+  pub c6-counts : counted 1 (3 ∷ 6 ∷ 4 ∷ []) 7 ≡ 2 ∷ 2 ∷ 1 ∷ []
+  pub c6-struck : AfterStrike 1 (3 ∷ 6 ∷ 4 ∷ []) 7 2 3 (2 ∷ 1 ∷ 0 ∷ [])
+  -- nothing comes off for a member that is not in the set, nor for one that the station has not
+  pub struck-again : AfterStrike 1 (3 ∷ 6 ∷ 4 ∷ []) 3 2 3 (2 ∷ 1 ∷ 0 ∷ [])
+  pub beyond-counts : counted 1 (11 ∷ 14 ∷ 12 ∷ []) 15 ≡ 2 ∷ 2 ∷ 1 ∷ []
+  pub strike-beyond : AfterStrike 1 (11 ∷ 14 ∷ 12 ∷ []) 15 3 7 (2 ∷ 2 ∷ 1 ∷ [])
+  -- with t = 16 a mask has no room for all 33 members: striking the first loses the vote of the last
+  pub no-room : (votes 16 (2 ^ 32 ∷ []) (2 ^ 32 + 1) 0 ≡ 1) × (votes 16 (2 ^ 32 ∷ []) (striking (2 ^ 32 + 1) 0) 0 ≡ 0)
+  -- a member that is not short; the only one left; the last of 31
+  pub strike-anyone : AfterStrike 1 (7 ∷ 6 ∷ 7 ∷ []) 7 0 6 (2 ∷ 2 ∷ 2 ∷ [])
+  pub strike-only : AfterStrike 1 (7 ∷ 6 ∷ 7 ∷ []) 1 0 0 (0 ∷ 0 ∷ 0 ∷ [])
+  pub strike-31st : AfterStrike 15 (replicate 31 (2 ^ 30)) (2 ^ 31 - 1) 30 (2 ^ 30 - 1) (replicate 31 0)

@@ -1,13 +1,14 @@
 // Vote rows to survivors. Row i is the set of those who accept member i.
 ghost use mathlib.Core.Path.{_≡_};
-ghost use mathlib.Core.Bool.{_&&_};
-ghost use Prim.Native.Nat.{suc, _≤_, _<_, _^_};
-ghost use lib.Dec.{leb};
+ghost use mathlib.Core.Bool.{true, cond};
+ghost use Prim.Native.Nat.{_-_, _≤_, _<_};
 ghost use lib.ListN.{length};
 ghost use Rattle.lists.specs.Tabulate.{each};
-ghost use Rattle.members.specs.Members.{size, has, isSet, common};
-ghost use Rattle.pruning.specs.Pruning.{round, survivors, prune};
+ghost use Rattle.members.specs.Members.{size, has, isSet, firstOf};
+ghost use Rattle.pruning.specs.Pruning.{survivors, prune};
+ghost use Rattle.pruning.specs.Counts.{Table, counted, AfterStrike};
 ghost use Rattle.pruning.specs.Answer.{answerOf};
+ghost use Rattle.pruning.specs.Internal.Steps.{isShort, FirstShort};
 
 // The survivors, or the number of the refusal.
 pub enum Survivors {
@@ -31,46 +32,107 @@ fn sets(n: usize, rows: &[u32]) -> bool
     true
 }
 
-// Member i is in the set, and at least t + 1 members of the set accept it.
-fn stays(t: usize, row: u32, set: u32, i: usize) -> bool
-    requires { ⌜ t < 32 ⌝ }
-    ensures { λ r. ⌜ r ≡ has set i && leb (suc t) (common row set) ⌝ }
+// Counts each member's votes from everybody.
+fn count_votes(t: usize, rows: &[u32], counts: &mut [u32])
+    requires { ⌜ Table t (now rows) ⌝ }
+    requires { ⌜ length (now counts) ≡ size t ⌝ }
+    ensures { λ r. ⌜ now (counts .exit) ≡ counted t (now (rows .entry)) (firstOf (size t)) ⌝ }
 {
-    members::has(set, i) && members::common(row, set) as usize >= t + 1
+    let n = members::size(t);
+    let everybody = members::first(n);
+    let mut i = 0;
+    while i < n {
+        counts[i] = members::common(rows[i], everybody);
+        i += 1;
+    }
 }
 
-// One round of striking: the members that stay.
-fn round(t: usize, rows: &[u32], set: u32) -> u32
-    requires { ⌜ (length (now rows) ≡ size t) × (size t ≤ 31) × (set < 2 ^ size t) ⌝ }
-    ensures { λ r. ⌜ r ≡ round t (now (rows .entry)) set ⌝ }
+// A member's votes once i is struck: one fewer if i accepted it.
+fn votes_left(row: u32, i: usize, votes: u32) -> u32
+    requires { ⌜ cond (has row i) 1 0 ≤ votes ⌝ }
+    ensures { λ r. ⌜ r ≡ votes - cond (has row i) 1 0 ⌝ }
 {
-    let mut next: u32 = 0;
+    if members::has(row, i) {
+        return votes - 1;
+    }
+    votes
+}
+
+// Strikes member i, and takes its vote off the count of each whom it accepted. Gives those left.
+fn strike(t: usize, rows: &[u32], set: u32, i: usize, counts: &mut [u32]) -> u32
+    requires { ⌜ Table t (now rows) ⌝ }
+    requires { ⌜ (i < size t) × (has set i ≡ true) ⌝ }
+    requires { ⌜ now counts ≡ counted t (now rows) set ⌝ }
+    ensures { λ r. ⌜ AfterStrike t (now (rows .entry)) set i r (now (counts .exit)) ⌝ }
+{
+    let n = members::size(t);
+    let mut k = 0;
+    while k < n {
+        counts[k] = votes_left(rows[k], i, counts[k]);
+        k += 1;
+    }
+    members::without(set, i)
+}
+
+// Member i is in the set, and its votes are fewer than needed.
+fn is_short(need: usize, set: u32, i: usize, votes: u32) -> bool
+    ensures { λ r. ⌜ r ≡ isShort need set i votes ⌝ }
+{
+    if need <= votes as usize {
+        return false;
+    }
+    members::has(set, i)
+}
+
+// The first short member, or how many there are where nobody is short.
+fn next_short(need: usize, set: u32, counts: &[u32]) -> usize
+    ensures { λ r. ⌜ FirstShort need set (now (counts .entry)) r ⌝ }
+{
     let mut i = 0;
-    while i < rows.len() {
-        if stays(t, rows[i], set, i) {
-            next = members::with(next, i);
+    while i < counts.len() {
+        if is_short(need, set, i, counts[i]) {
+            return i;
         }
         i += 1;
     }
-    next
+    i
 }
 
-// Rounds until nobody is struck, and no more than there are members.
-fn struck(t: usize, rows: &[u32]) -> u32
-    requires { ⌜ (length (now rows) ≡ size t) × (size t ≤ 31) ⌝ }
-    ensures { λ r. ⌜ r ≡ survivors t (now (rows .entry)) ⌝ }
+// Strikes short members one after the other, from everybody on, until nobody is short.
+fn strike_short(t: usize, rows: &[u32], counts: &mut [u32]) -> u32
+    requires { ⌜ Table t (now rows) ⌝ }
+    requires { ⌜ now counts ≡ counted t (now rows) (firstOf (size t)) ⌝ }
+    ensures { λ r. ⌜ (r ≡ survivors t (now (rows .entry))) × (now (counts .exit) ≡ counted t (now (rows .entry)) r) ⌝ }
 {
-    let mut set = members::first(rows.len());
-    let mut left = rows.len();
-    while 0 < left {
-        let next = round(t, rows, set);
-        if next == set {
-            return set;
-        }
-        set = next;
-        left -= 1;
+    let n = members::size(t);
+    let need = t + 1;
+    let mut set = members::first(n);
+    let mut next = next_short(need, set, counts);
+    while next < n {
+        set = strike(t, rows, set, next, counts);
+        next = next_short(need, set, counts);
     }
     set
+}
+
+// Counts, then strikes: what pruning does once its checks are passed.
+fn count_and_strike(t: usize, rows: &[u32], counts: &mut [u32]) -> u32
+    requires { ⌜ Table t (now rows) ⌝ }
+    requires { ⌜ length (now counts) ≡ size t ⌝ }
+    ensures { λ r. ⌜ (r ≡ survivors t (now (rows .entry))) × (now (counts .exit) ≡ counted t (now (rows .entry)) r) ⌝ }
+{
+    count_votes(t, rows, counts);
+    strike_short(t, rows, counts)
+}
+
+// The survivors. Makes the room for n counts.
+fn struck(t: usize, rows: &[u32]) -> u32
+    requires { ⌜ Table t (now rows) ⌝ }
+    ensures { λ r. ⌜ r ≡ survivors t (now (rows .entry)) ⌝ }
+{
+    let n = members::size(t);
+    let mut counts = [0u32; 31];
+    count_and_strike(t, rows, &mut counts[..n])
 }
 
 // The survivors of the votes; refusals 1, 10 and 12.

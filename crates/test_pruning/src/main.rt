@@ -109,6 +109,24 @@ fn fill(rows: &mut [u32; 31], word: u32) -> u32 {
     x
 }
 
+// Row i of a chain, from 0, the first row aside. Members 2 to 16 have just 16 votes each: of the member before, their own and of the 14 after. The last 15 have all.
+fn link(i: usize) -> u32 {
+    if i < 16 {
+        return 65535u32 << i >> 1;
+    }
+    2147483647
+}
+
+// A chain of votes whose first member has the votes that are given.
+fn chain(rows: &mut [u32; 31], first: u32) {
+    let mut i: usize = 0;
+    while i < 31 {
+        rows[i] = link(i);
+        i += 1;
+    }
+    rows[0] = first;
+}
+
 fn line(label: &[u8], n: u64) {
     io::write_all(STDOUT_FILENO, label);
     io::print_decimal(STDOUT_FILENO, n);
@@ -164,6 +182,13 @@ fn both31(rows: &[u32; 31]) -> u32 {
     4294967295
 }
 
+// What is left of the chain whose first member has these votes.
+fn chained(first: u32) -> u32 {
+    let mut rows = [0u32; 31];
+    chain(&mut rows, first);
+    both31(&rows)
+}
+
 // All tables of three members.
 fn small() -> Tally {
     let mut t = Tally {
@@ -208,6 +233,11 @@ fn main() {
     line(b"threshold 16: ", number(16, &[8]) as u64);
     line(b"one row: ", number(1, &[8]) as u64);
     line(b"a bit beyond member 3: ", number(1, &[3, 3, 8]) as u64);
+    line(b"a chain of 31: ", chained(65535) as u64);
+    line(
+        b"one vote short at its first member: ",
+        chained(32767) as u64,
+    );
     report(small());
     report(large());
 }

@@ -11,6 +11,7 @@ use crosscheck::library::plain;
 use crosscheck::random::Random;
 use crosscheck::reference::decoding::Way;
 use crosscheck::reference::everybody;
+use crosscheck::reference::pruning::prune;
 use crosscheck::reference::sharing::{Layout, deal, open, random_words};
 use crosscheck::reference::text::{LONGEST_WRITTEN, ROOM, read, write};
 
@@ -53,6 +54,36 @@ fn opening(name: &'static str, present: u32, shares: Vec<u16>, number: u16) -> R
         }),
         number,
     }
+}
+
+/// A hundred times, since once takes the library less than a microsecond.
+fn pruning() -> Row {
+    let rows = one_after_the_other();
+    let other = rows.clone();
+    let hundred = |call: fn(usize, &[u32]) -> (u16, u32), rows: &[u32]| {
+        (0..100).fold(0, |all, _| {
+            let (number, survivors) = black_box(call(T, black_box(rows)));
+            assert_eq!(survivors, 0);
+            all | number
+        })
+    };
+    Row {
+        name: "pruning 100 times, 31 struck one after the other",
+        library: Box::new(move || hundred(plain::prune, &rows)),
+        reference: Box::new(move || hundred(prune, &other)),
+        number: 0,
+    }
+}
+
+/// Rows of which only the first is short, by one vote. Each of the next t has just t + 1 votes, one
+/// of them from the member before it, and nobody else's vote comes off before it is struck. After
+/// t + 1 strikes t members are left, too few, whom everybody accepts.
+fn one_after_the_other() -> Vec<u32> {
+    let n = 2 * T + 1;
+    let first = everybody(T);
+    let chain = (0..T).map(|before| everybody(T + 1) << before);
+    let rows: Vec<u32> = std::iter::once(first).chain(chain).collect();
+    [rows, vec![everybody(n); T]].concat()
 }
 
 fn reading(shares: &[u16]) -> Row {
@@ -153,6 +184,7 @@ fn rows() -> Vec<Row> {
         opening("opening, 7 of 31 altered, all survive", all, seven, 0),
         opening("opening, 7 of 31 altered, in one word each", all, each, 0),
         opening("opening, 16 in the last word", all, last, 16),
+        pruning(),
         reading(&shares),
         writing(&shares),
     ]

@@ -25,14 +25,17 @@ pub fn all(round: &mut Round) {
 
 fn note(round: &mut Round, call: &Prune, survivors: u32) {
     let everybody = everybody(call.rows.len());
+    let first = |i: &usize| (call.rows[i - 1].count_ones() as usize) > call.t;
+    let counted_once = members(everybody).into_iter().filter(first).count();
     if survivors == 0 {
         round.ledger.note("prune: nobody survives");
+        if call.t > 1 && counted_once + 1 == call.rows.len() {
+            round.ledger.note("prune: one short member brings all down");
+        }
     } else if survivors == everybody {
         round.ledger.note("prune: all survive");
     } else {
         round.ledger.note("prune: some survive");
-        let first = |i: &usize| (call.rows[i - 1].count_ones() as usize) > call.t;
-        let counted_once = members(everybody).into_iter().filter(first).count();
         if counted_once > survivors.count_ones() as usize {
             round.ledger.note("prune: one strike brings another");
         }

@@ -1,11 +1,11 @@
-//! The survivors of the votes, found by striking one member at a time.
+//! The survivors of the votes, found by striking one member at a time, the last first.
 
 use super::{allowed, everybody, holds};
 
 /// The largest set whose members are each accepted by at least t + 1 members of it.
 pub fn survivors(t: usize, rows: &[u32]) -> u32 {
     let mut set = everybody(rows.len());
-    while let Some(struck) = (1..=rows.len()).find(|i| to_strike(t, rows, set, *i)) {
+    while let Some(struck) = (1..=rows.len()).rfind(|i| to_strike(t, rows, set, *i)) {
         set -= 1 << (struck - 1);
     }
     set

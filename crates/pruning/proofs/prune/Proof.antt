@@ -49,7 +49,7 @@ prune-spec =
     -- if !sets(n, rows)
     (λ c κs. let e : tie.Else1 = search in omega (arith, few e))
     (λ c. search (fails, refuses-12, threshold, n-rows, sets-size))
-    (λ c κs. (search n-rows, search few))
+    (λ c κs. let e : tie.Else1 = search in record { few = within-high 1 15 _ (threshold e); long = search n-rows })
     (λ c.
     let (e, rows, tested) : tie.Else1 × tie.Else2 × tie.After-sets = (search, search, search) in
     ap left (c .struck .ensures) ∙ sym (accepts _ _ (threshold e) (n-rows rows) (passes _ _ (sets-size tested) search))))

@@ -1,28 +1,25 @@
--- `pruning::struck`: the rounds that are left turn the set into the survivors, and a set that a round keeps is kept by all later ones.
+-- `pruning::struck`: the array has room for n counts, and the rest is `count_and_strike`.
 -- Assumes nothing.
+use mathlib.Core.Path.{sym, _∙_}
+use Prim.Native.Nat.{_≤_}
 use native.Mathlib.Omega.{arith}
+use lib.Seq.{length-take-le}
 use borrow.Author.Needs.{needs}
-use Rattle.pruning.proofs.Steps.{Going, going-first, going-fixed, going-on, going-done}
+use Rattle.members.proofs.Words.{size-31}
 use Rattle.pruning.proofs.struck.Statement.{statement}
 use Rattle.pruning.proofs.struck.Tie as tie
 
-abbrev Inv-loop : tie.InvT-loop
-Inv-loop t rows set₀ left₀ set left = Going t rows set left
-
-abbrev μ-loop : tie.MeasureT-loop
-μ-loop t rows set₀ left₀ set left = left
+-- n counts fit
+fits : (c : tie.After-size) → c .size .result ≤ 31
+fits c = let start : tie.Start = search in omega (arith, size-31 _ (start .pre .few))
 
 pub struck-spec : {M : Type 1} → statement M
 struck-spec =
     tie.close
     (tie.spec
-    Inv-loop
-    μ-loop
     (λ c κs. search needs)
-    (λ c. search going-first)
-    (λ c κs. (search needs, search needs, search needs))
-    (λ c. search going-fixed)
-    (λ c. omega arith)
-    (λ c. omega arith)
-    (λ c. search going-on)
-    (λ c. search going-done))
+    -- &mut counts[..n]
+    (λ c. search fits)
+    (λ c. sym (length-take-le _ _ (search fits)))
+    (λ c κs. let at-size : tie.After-size = search in (search needs, length-take-le _ _ (fits at-size) ∙ at-size .size .ensures))
+    (λ c. search needs))
