@@ -3,13 +3,13 @@
 use mathlib.Core.Path.{_≡_, refl, sym, ap, ap₂, _∙_}
 use mathlib.Core.Bool.{Bool, true, false, _&&_, _||_, not}
 use Prim.Native.Nat.{ℕ, zero, suc, _+_, _-_, _*_, _/_, _%_, _^_, _≤_, _<_, min, max, zero-le, suc-le-suc}
-use native.Mathlib.Nat.{not-suc-le-zero, le-of-suc-le-suc, le-trans, mod-lt, div-one, zero-lt-suc}
+use native.Mathlib.Nat.{not-suc-le-zero, le-of-suc-le-suc, le-trans, lt-of-not-le, mod-lt, div-one, zero-lt-suc}
 use native.Mathlib.Omega.{arith}
 use lib.Dec.{eqb, eqb·zero-suc, eqb·suc-zero, eqb·suc-suc}
 use lib.Arith.{lt-one}
 use lib.Pow.{pow-pos, shr-shr}
 use lib.Bits.{bitAnd, bitOr, and-step, or-step, and-lt}
-use lib.Count.{ones, ones-step}
+use lib.Count.{ones, ones-step, under, trailingZeros}
 use Rattle.lists.specs.Tabulate.{count}
 use Rattle.lists.proofs.Bools.{clash, same-test}
 use Rattle.lists.proofs.Count.{toℕ, count-le, count-mono, count-ext, count-back, count-more, count-some}
@@ -89,6 +89,9 @@ unfolding has bit
 has-above zero m i h l = ap (λ (x : ℕ). has x i) (lt-one h) ∙ has-zero i
 has-above (suc n) m zero h l = absurd (not-suc-le-zero l)
 has-above (suc n) m (suc i) h l = has-above n (m / 2) i (half-lt n m h) (le-of-suc-le-suc l)
+
+pub has-inside : (n m i : ℕ) → m < 2 ^ n → has m i ≡ true → i < n
+has-inside n m i h y = lt-of-not-le (λ l. clash y (has-above n m i h l))
 
 -- ---- how many members
 
@@ -198,6 +201,33 @@ unfolding has bit
 has-not zero m i h k = absurd (not-suc-le-zero k)
 has-not (suc n) m zero h k = ap (λ (x : ℕ). eqb x 1) (low-other n m h) ∙ other (m % 2) (mod2 m)
 has-not (suc n) m (suc i) h k = ap (λ (x : ℕ). has x i) (half-other n m h) ∙ has-not n (m / 2) i (half-lt n m h) (le-of-suc-le-suc k)
+
+low-zero : (b zeros : ℕ) → 0 < under b zeros → eqb b 1 ≡ false
+low-zero zero zeros h = refl
+low-zero (suc b) zeros h = absurd (not-suc-le-zero h)
+
+below-rest : (b zeros i : ℕ) → suc i < under b zeros → i < zeros
+below-rest zero zeros i h = le-of-suc-le-suc h
+below-rest (suc b) zeros i h = absurd (not-suc-le-zero h)
+
+-- nobody stands at the zeros below the lowest bit
+pub has-below : (n m i : ℕ) → i < trailingZeros n m → has m i ≡ false
+unfolding has bit trailingZeros
+has-below zero m i h = absurd (not-suc-le-zero h)
+has-below (suc n) m zero h = low-zero (m % 2) (trailingZeros n (m / 2)) h
+has-below (suc n) m (suc i) h = has-below n (m / 2) i (below-rest (m % 2) (trailingZeros n (m / 2)) i h)
+
+lowest-step : (n m b zeros : ℕ) → b < 2 → m % 2 ≡ b → (zeros < n → has (m / 2) zeros ≡ true) → under b zeros < suc n → has m (under b zeros) ≡ true
+unfolding has bit
+lowest-step n m zero zeros h e rest l = rest (le-of-suc-le-suc l)
+lowest-step n m (suc zero) zeros h e rest l = ap (λ (x : ℕ). eqb x 1) e
+lowest-step n m (suc (suc b)) zeros h e rest l = absurd (not-suc-le-zero (le-of-suc-le-suc (le-of-suc-le-suc h)))
+
+-- a member stands at the lowest bit
+pub has-lowest : (n m : ℕ) → trailingZeros n m < n → has m (trailingZeros n m) ≡ true
+unfolding trailingZeros
+has-lowest zero m h = absurd (not-suc-le-zero h)
+has-lowest (suc n) m h = lowest-step n m (m % 2) (trailingZeros n (m / 2)) (mod2 m) refl (has-lowest n (m / 2)) h
 
 -- the members that two sets have in common, counted
 pub ones-and : (n a b : ℕ) → a < 2 ^ n → b < 2 ^ n → ones (bitAnd a b) ≡ count n (λ j. has a j && has b j)

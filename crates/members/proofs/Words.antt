@@ -4,21 +4,22 @@ use mathlib.Core.Path.{_≡_, refl, sym, ap, _∙_, subst}
 use mathlib.Core.Logic.{_⊎_, inl, inr}
 use mathlib.Core.Bool.{Bool, true, false, _&&_, _||_, not, cond}
 use Prim.Native.Nat.{ℕ, zero, suc, _+_, _-_, _/_, _^_, _≤_, _<_, zero-le, suc-le-suc}
-use native.Mathlib.Nat.{le-refl, le-suc, le-of-eq, le-of-suc-le-suc, eq-or-lt-of-le, lt-of-lt-of-le, lt-of-le-of-lt, le-trans, lt-irrefl}
+use native.Mathlib.Nat.{le-refl, le-suc, le-of-eq, le-of-suc-le-suc, eq-or-lt-of-le, lt-of-lt-of-le, lt-of-le-of-lt, le-trans, lt-irrefl, lt-of-not-le}
 use native.Mathlib.Numerals.{add-one}
 use native.Mathlib.Omega.{arith}
 use lib.Dec.{eqb, ltb, leb, leb·suc-suc}
 use lib.Arith.{lt-of-le-ne}
 use lib.Bits.{bitAnd, bitOr, and-mask, and-le-l, or-lt}
 use lib.Count.{ones}
-use lib.Pow.{pow-mono, pow-lt}
+use lib.Pow.{pow-mono, pow-lt, pow-pos}
 use borrow.Author.Tests.{eq-eqb, eqb-true, eqb-false, ne-eqb, lt-ltb, le-ltb, ltb-true, ltb-false}
 use Rattle.lists.specs.Tabulate.{count}
 use Rattle.lists.proofs.Bools.{test, clash, or-no, or-yes, and-yes, and-no}
 use Rattle.lists.proofs.Checks.{within-high}
 use Rattle.lists.proofs.Count.{count-more}
 use Rattle.members.specs.Members.{isThreshold, size, has, setOf, isSet, card, adding, striking, firstOf, common}
-use Rattle.members.proofs.Masks.{has-setOf, setOf-lt, setOf-has, setOf-ext, same-members, has-above, has-and, has-or, has-not, has-power, has-shift, ones-and, suc-everyone, card-more}
+use Rattle.members.specs.Internal.Lowest.{Lowest}
+use Rattle.members.proofs.Masks.{has-setOf, setOf-lt, setOf-has, setOf-ext, same-members, has-zero, has-above, has-and, has-or, has-not, has-power, has-shift, ones-and, suc-everyone, card-more}
 
 -- ---- what the code computes
 
@@ -71,6 +72,11 @@ pub striking-less : (m i : ℕ) → m < 2 ^ 32 → i < 32 → has m i ≡ true �
 striking-less m i h k y =
     lt-of-le-ne (striking-le m i h k)
     (λ e. clash y (sym (ap (λ (x : ℕ). has x i) e) ∙ has-striking m i i k ∙ and-no (has m i) (not (eqb i i)) (ap not (eq-eqb i i refl))))
+
+-- a set that is not empty has a first member
+pub lowest-member : (m i : ℕ) → m < 2 ^ 32 → 0 < m → Lowest m i → i < 32
+lowest-member m i h some low =
+    lt-of-not-le (λ l. lt-irrefl _ (subst (λ (x : ℕ). 0 < x) (same-members 32 m 0 h (pow-pos 32) (λ k b. low .none-before k (lt-of-lt-of-le b l) ∙ sym (has-zero k))) some))
 
 -- ---- the same operations on n members, n at most 32
 

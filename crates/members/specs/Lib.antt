@@ -1,2 +1,3 @@
 pub mod Examples
+pub mod Internal
 pub mod Members

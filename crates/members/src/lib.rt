@@ -4,6 +4,7 @@ ghost use Prim.Native.Nat.{suc, _<_, _≤_, _^_};
 ghost use lib.ListN.{length};
 ghost use Rattle.lists.specs.Tabulate.{tab};
 ghost use Rattle.members.specs.Members.{isThreshold, size, has, card, adding, striking, firstOf, common};
+ghost use Rattle.members.specs.Internal.Lowest.{Lowest};
 
 // A station's threshold is 1 to 15.
 pub fn threshold(t: usize) -> bool
@@ -68,6 +69,13 @@ pub fn without(set: u32, i: usize) -> u32
         return set; // it is not in
     }
     set & !only(i)
+}
+
+// The first member of the set, or 32 where it has none.
+pub fn lowest(set: u32) -> usize
+    ensures { λ r. ⌜ Lowest set r ⌝ }
+{
+    u32::trailing_zeros(set) as usize
 }
 
 // The first n members, or the 32 that a mask can hold.

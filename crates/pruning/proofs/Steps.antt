@@ -1,26 +1,29 @@
 -- A law for each step of the loops in the code.
 -- Assumes nothing.
 use mathlib.Core.Path.{_≡_, sym, ap, _∙_, subst}
-use mathlib.Core.Bool.{Bool, true, false, not}
+use mathlib.Core.Logic.{_⊎_, inl, inr, ⊎-elim}
+use mathlib.Core.Bool.{Bool, true, false, _&&_, not}
 use mathlib.Core.List.{List}
 use Prim.Native.Nat.{ℕ, suc, _+_, _-_, _≤_, _<_, _^_}
-use native.Mathlib.Nat.{le-refl, lt-of-lt-of-le, lt-of-le-of-lt, not-le-of-lt}
+use native.Mathlib.Nat.{le-refl, le-trans, le-of-lt, lt-trans, lt-irrefl, lt-of-lt-of-le, lt-of-le-of-lt, not-le-of-lt}
 use native.Mathlib.Numerals.{add-one}
 use native.Mathlib.Omega.{arith}
-use lib.Dec.{leb, ltb}
+use lib.Dec.{leb, eqb}
 use lib.ListN.{length, getD, set}
 use lib.Pow.{pow-mono}
-use borrow.Author.Tests.{le-leb, lt-leb, ltb-true, ltb-false, ne-eqb}
+use borrow.Author.Tests.{le-leb, lt-leb, eqb-true, ne-eqb}
 use Rattle.lists.specs.Tabulate.{each}
-use Rattle.lists.proofs.Bools.{and-intro, and-left, and-right, and-yes}
+use Rattle.lists.proofs.Bools.{and-intro, and-left, test, clash}
 use Rattle.lists.proofs.Count.{toℕ}
 use Rattle.lists.proofs.Tables.{Filled, filled-next, filled-last, Replaced, replaced-first, replaced-next, replaced-last}
 use Rattle.lists.proofs.Tabulate.{Tested, tested-next, tested-fails, length-tab, getD-tab}
 use Rattle.members.specs.Members.{size, has, isSet, striking, firstOf, common}
-use Rattle.members.proofs.Words.{size-32, firstOf-all, firstOf-lt, firstOf-isSet, common-count, has-striking, striking-le, striking-less}
+use Rattle.members.specs.Internal.Lowest.{Lowest}
+use Rattle.members.proofs.Masks.{has-zero, has-inside}
+use Rattle.members.proofs.Words.{size-32, firstOf-all, firstOf-lt, firstOf-isSet, common-count, has-striking, striking-le, striking-less, lowest-member}
 use Rattle.pruning.specs.Pruning.{votes, survivors}
 use Rattle.pruning.specs.Counts.{Table, counted, AfterStrike}
-use Rattle.pruning.specs.Internal.Steps.{isShort, FirstShort}
+use Rattle.pruning.specs.Internal.Steps.{FirstShort}
 use Rattle.pruning.proofs.Largest.{Above, above-strike, above-all, struck-survivors}
 use Rattle.pruning.proofs.Counts.{votes-apart}
 
@@ -55,6 +58,10 @@ pub counted-long : (t : ℕ) (rows : List ℕ) (set : ℕ) (counts : List ℕ) �
 unfolding counted
 counted-long t rows set counts e = ap length e ∙ length-tab (size t) (votes t rows set)
 
+-- a set of the n members has no bit beyond the counts
+pub counted-below : (t : ℕ) (rows : List ℕ) (set : ℕ) (counts : List ℕ) → set < 2 ^ size t → counts ≡ counted t rows set → set < 2 ^ length counts
+counted-below t rows set counts h e = subst (λ (n : ℕ). set < 2 ^ n) (sym (counted-long t rows set counts e)) h
+
 -- ---- one strike
 
 -- the counts of the first k members are those after the strike, the others still those before it
@@ -86,6 +93,68 @@ module _ (t : ℕ) (rows : List ℕ) (from i : ℕ) where
           right = replaced-last (votes t rows from) (votes t rows (striking from i)) 0 (size t) counts k h so-far ∙ ap (counted t rows) (sym e);
         }
 
+-- ---- the next short member
+
+-- those of the set that are looked at already have enough
+pub record Looking (need from : ℕ) (counts : List ℕ) (rest : ℕ) : Type 0 where
+  pub most : rest ≤ from
+  pub part : (k : ℕ) → has rest k ≡ true → has from k ≡ true
+  pub enough : (k : ℕ) → has from k ≡ true → (has rest k ≡ true) ⊎ (need ≤ getD counts k 0)
+
+module _ (need from : ℕ) (counts : List ℕ) where
+  pub looking-first : Looking need from counts from
+  looking-first = record { most = le-refl from; part = λ k y. y; enough = λ k y. inl y }
+
+  pub looking-none : (rest : ℕ) → Looking need from counts rest → rest ≤ 0 → FirstShort need from counts (length counts)
+  looking-none rest l none =
+      let e : rest ≡ 0 = omega arith in
+      record {
+        inside = le-refl (length counts);
+        enough-before = λ k b y. ⊎-elim (λ r. absurd (clash r (ap (λ (x : ℕ). has x k) e ∙ has-zero k))) (λ e. e) (l .enough k y);
+        member = λ b. absurd (lt-irrefl _ b);
+        short = λ b. absurd (lt-irrefl _ b);
+      }
+
+  module _ (rest i : ℕ) (looking : Looking need from counts rest) (low : Lowest rest i) (narrow : from < 2 ^ 32) (some : 0 < rest) where
+    small : rest < 2 ^ 32
+    small = lt-of-le-of-lt (looking .most) narrow
+
+    in-mask : i < 32
+    in-mask = lowest-member rest i small some low
+
+    in-rest : has rest i ≡ true
+    in-rest = low .member in-mask
+
+    pub looking-inside : from < 2 ^ length counts → i < length counts
+    looking-inside h = has-inside (length counts) rest i (lt-of-le-of-lt (looking .most) h) in-rest
+
+    pub looking-found : from < 2 ^ length counts → getD counts i 0 < need → FirstShort need from counts i
+    looking-found h few =
+        record {
+          inside = le-of-lt (looking-inside h);
+          enough-before = λ k b y. ⊎-elim (λ r. absurd (clash r (low .none-before k b))) (λ e. e) (looking .enough k y);
+          member = λ b. looking .part i in-rest;
+          short = λ b. few;
+        }
+
+    pub looking-less : (next : ℕ) → next ≡ striking rest i → next < rest
+    looking-less next e = subst (λ (x : ℕ). x < rest) (sym e) (striking-less rest i small in-mask in-rest)
+
+    pub looking-next : (next : ℕ) → next ≡ striking rest i → need ≤ getD counts i 0 → Looking need from counts next
+    looking-next next e h =
+        record {
+          most = le-trans (le-of-lt (looking-less next e)) (looking .most);
+          part = λ k y. looking .part k (and-left (has rest k) (not (eqb k i)) (sym (at k (has-inside 32 next k (lt-trans (looking-less next e) small) y)) ∙ y));
+          enough = λ k y. ⊎-elim (λ r. other k r (test (eqb k i))) inr (looking .enough k y);
+        }
+      where
+        at : (k : ℕ) → k < 32 → has next k ≡ has rest k && not (eqb k i)
+        at k l = ap (λ (x : ℕ). has x k) e ∙ has-striking rest i k l
+
+        other : (k : ℕ) → has rest k ≡ true → (eqb k i ≡ true) ⊎ (eqb k i ≡ false) → (has next k ≡ true) ⊎ (need ≤ getD counts k 0)
+        other k r (inl y) = inr (subst (λ (x : ℕ). need ≤ getD counts x 0) (sym (eqb-true k i y)) h)
+        other k r (inr n) = inl (at k (has-inside 32 rest k small r) ∙ and-intro r (ap not n))
+
 -- ---- all strikes
 
 -- some are struck, none of them in a closed set, and the counts are those of the members left
@@ -107,6 +176,9 @@ module _ (t : ℕ) (rows : List ℕ) (table : Table t rows) where
         right = e ∙ ap (counted t rows) (sym everybody);
       }
 
+  pub going-below : (set : ℕ) (counts : List ℕ) → Going t rows set counts → set < 2 ^ length counts
+  going-below set counts going = counted-below t rows set counts (going .below) (going .right)
+
   module _ (set : ℕ) (counts : List ℕ) (going : Going t rows set counts) where
     count-of : (k : ℕ) → k < size t → getD counts k 0 ≡ votes t rows set k
     unfolding counted
@@ -119,22 +191,17 @@ module _ (t : ℕ) (rows : List ℕ) (table : Table t rows) where
         where
           votes-enough : (k : ℕ) → k < size t → has set k ≡ true → suc t ≤ votes t rows set k
           votes-enough k l y =
-              omega (
-                arith,
-                enough,
-                count-of k l,
-                ltb-false (getD counts k 0) need (sym (and-yes (ltb (getD counts k 0) need) (has set k) y) ∙ first .none-before k (lt-of-lt-of-le l h)),
-              )
+              omega (arith, enough, count-of k l, first .enough-before k (lt-of-lt-of-le l h) y)
 
       module _ (inside : i < size t) where
-        is-short : isShort need set i (getD counts i 0) ≡ true
-        is-short = first .short (omega (arith, counted-long t rows set counts (going .right)))
+        counted-inside : i < length counts
+        counted-inside = omega (arith, counted-long t rows set counts (going .right))
 
         pub short-member : has set i ≡ true
-        short-member = and-right (ltb (getD counts i 0) need) (has set i) is-short
+        short-member = first .member counted-inside
 
         votes-few : votes t rows set i < need
-        votes-few = omega (arith, count-of i inside, ltb-true (getD counts i 0) need (and-left (ltb (getD counts i 0) need) (has set i) is-short))
+        votes-few = omega (arith, count-of i inside, first .short counted-inside)
 
         module _ (left : ℕ) (after : List ℕ) (strike : AfterStrike t rows set i left after) where
           keeps : need ≤ t + 1 → (k : ℕ) → k < size t → has set k ≡ true → suc t ≤ votes t rows set k → has left k ≡ true
@@ -145,10 +212,16 @@ module _ (t : ℕ) (rows : List ℕ) (table : Table t rows) where
           narrow : set < 2 ^ 32
           narrow = lt-of-lt-of-le (going .below) (pow-mono room)
 
+          left-below : left < 2 ^ size t
+          left-below = subst (λ (x : ℕ). x < 2 ^ size t) (sym (strike .without)) (lt-of-le-of-lt (striking-le set i narrow (lt-of-lt-of-le inside room)) (going .below))
+
+          pub strike-below : left < 2 ^ length after
+          strike-below = counted-below t rows left after left-below (strike .right)
+
           pub going-on : need ≤ t + 1 → Going t rows left after
           going-on most =
               record {
-                below = subst (λ (x : ℕ). x < 2 ^ size t) (sym (strike .without)) (lt-of-le-of-lt (striking-le set i narrow (lt-of-lt-of-le inside room)) (going .below));
+                below = left-below;
                 above = above-strike t rows set left (going .above) (keeps most);
                 right = strike .right;
               }

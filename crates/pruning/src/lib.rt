@@ -1,14 +1,14 @@
 // Vote rows to survivors. Row i is the set of those who accept member i.
 ghost use mathlib.Core.Path.{_≡_};
 ghost use mathlib.Core.Bool.{true, cond};
-ghost use Prim.Native.Nat.{_-_, _≤_, _<_};
+ghost use Prim.Native.Nat.{_-_, _≤_, _<_, _^_};
 ghost use lib.ListN.{length};
 ghost use Rattle.lists.specs.Tabulate.{each};
 ghost use Rattle.members.specs.Members.{size, has, isSet, firstOf};
 ghost use Rattle.pruning.specs.Pruning.{survivors, prune};
 ghost use Rattle.pruning.specs.Counts.{Table, counted, AfterStrike};
 ghost use Rattle.pruning.specs.Answer.{answerOf};
-ghost use Rattle.pruning.specs.Internal.Steps.{isShort, FirstShort};
+ghost use Rattle.pruning.specs.Internal.Steps.{FirstShort};
 
 // The survivors, or the number of the refusal.
 pub enum Survivors {
@@ -74,28 +74,20 @@ fn strike(t: usize, rows: &[u32], set: u32, i: usize, counts: &mut [u32]) -> u32
     members::without(set, i)
 }
 
-// Member i is in the set, and its votes are fewer than needed.
-fn is_short(need: usize, set: u32, i: usize, votes: u32) -> bool
-    ensures { λ r. ⌜ r ≡ isShort need set i votes ⌝ }
-{
-    if need <= votes as usize {
-        return false;
-    }
-    members::has(set, i)
-}
-
-// The first short member, or how many there are where nobody is short.
+// The first member of the set that is short of the votes needed, or how many counts there are where nobody is.
 fn next_short(need: usize, set: u32, counts: &[u32]) -> usize
+    requires { ⌜ set < 2 ^ length (now counts) ⌝ }
     ensures { λ r. ⌜ FirstShort need set (now (counts .entry)) r ⌝ }
 {
-    let mut i = 0;
-    while i < counts.len() {
-        if is_short(need, set, i, counts[i]) {
+    let mut rest = set;
+    while 0 < rest {
+        let i = members::lowest(rest);
+        if (counts[i] as usize) < need {
             return i;
         }
-        i += 1;
+        rest = members::without(rest, i);
     }
-    i
+    counts.len()
 }
 
 // Strikes short members one after the other, from everybody on, until nobody is short.

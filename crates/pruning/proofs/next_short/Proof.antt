@@ -1,35 +1,18 @@
--- `pruning::next_short`: nobody before i is short.
+-- `pruning::next_short`: of the set, whoever is not left to be looked at has enough votes.
 -- Assumes nothing.
-use mathlib.Core.Path.{_≡_, sym, _∙_}
-use mathlib.Core.Bool.{Bool, true, false}
-use mathlib.Core.List.{List}
-use Prim.Native.Nat.{ℕ, _+_, _-_, _≤_, _<_}
-use native.Mathlib.Nat.{not-le-of-lt}
+use Prim.Native.Nat.{_<_}
 use native.Mathlib.Omega.{arith}
-use borrow.Author.Count.{below-none, below-more}
 use borrow.Author.Needs.{needs}
-use lib.ListN.{length, getD}
-use Rattle.pruning.specs.Internal.Steps.{isShort, FirstShort}
+use lib.ListN.{length}
+use Rattle.pruning.proofs.Steps.{Looking, looking-first, looking-inside, looking-found, looking-next, looking-less, looking-none}
 use Rattle.pruning.proofs.next_short.Statement.{statement}
 use Rattle.pruning.proofs.next_short.Tie as tie
 
 abbrev Inv-loop : tie.InvT-loop
-Inv-loop need set counts i₀ i = (i ≤ length counts) × ((k : ℕ) → k < i → isShort need set k (getD counts k 0) ≡ false)
+Inv-loop need set counts rest₀ rest = Looking need set counts rest
 
 abbrev μ-loop : tie.MeasureT-loop
-μ-loop need set counts i₀ i = length counts - i
-
--- the search ends at a short member, or goes on past one that is not, or ends where there is nobody left
-module _ (need set : ℕ) (counts : List ℕ) (i : ℕ) (before : (k : ℕ) → k < i → isShort need set k (getD counts k 0) ≡ false) (r : Bool) where
-  found : i < length counts → r ≡ isShort need set i (getD counts i 0) → r ≡ true → FirstShort need set counts i
-  found h e y = record { inside = omega arith; none-before = before; short = λ l. sym e ∙ y }
-
-  passed : r ≡ isShort need set i (getD counts i 0) → r ≡ false → (k : ℕ) → k < i + 1 → isShort need set k (getD counts k 0) ≡ false
-  passed e n = below-more _ _ before (sym e ∙ n)
-
-nobody : (need set : ℕ) (counts : List ℕ) (i : ℕ) → ((k : ℕ) → k < i → isShort need set k (getD counts k 0) ≡ false) → i ≤ length counts → length counts ≤ i
-    → FirstShort need set counts i
-nobody need set counts i before h l = record { inside = h; none-before = before; short = λ b. absurd (not-le-of-lt b l) }
+μ-loop need set counts rest₀ rest = rest
 
 pub next-short-spec : {M : Type 1} → statement M
 next-short-spec =
@@ -37,14 +20,16 @@ next-short-spec =
     (tie.spec
     Inv-loop
     μ-loop
-    (λ c. (search needs, below-none _))
-    -- if is_short(need, set, i, counts[i])
-    (λ c. omega arith)
-    (λ c. omega arith)
+    (λ c. search looking-first)
+    -- let i = members::lowest(rest)
     (λ c κs. search needs)
-    (λ c. search found)
-    -- i += 1
-    (λ c. omega arith)
-    (λ c. omega arith)
-    (λ c. (omega arith, search passed))
-    (λ c. search nobody))
+    -- if (counts[i] as usize) < need
+    (λ c. let low : tie.After-lowest Inv-loop μ-loop = search in omega (arith, low .lowest .ensures .inside))
+    (λ c. search looking-inside)
+    (λ c. omega (arith, c .shared-slice-known2 .given (c .before .lowest .result)))
+    (λ c. search looking-found)
+    -- rest = members::without(rest, i)
+    (λ c κs. search needs)
+    (λ c. search looking-less)
+    (λ c. search looking-next)
+    (λ c. search looking-none))

@@ -6,7 +6,7 @@ use native.Mathlib.Omega.{arith}
 use borrow.Author.Needs.{needs}
 use Rattle.members.specs.Members.{size}
 use Rattle.pruning.specs.Internal.Steps.{FirstShort}
-use Rattle.pruning.proofs.Steps.{counted-long, Going, going-first, short-member, going-on, going-less, going-done}
+use Rattle.pruning.proofs.Steps.{counted-long, Going, going-first, going-below, strike-below, short-member, going-on, going-less, going-done}
 use Rattle.pruning.proofs.strike_short.Statement.{statement}
 use Rattle.pruning.proofs.strike_short.Tie as tie
 
@@ -39,12 +39,12 @@ strike-short-spec =
     (λ c. search needs)
     -- let mut next = next_short(need, set, counts)
     (λ c κs. search needs)
-    (λ c κs. search needs)
+    (λ c κs. search (going-below, going-first))
     (λ c. (search going-first, search needs))
     -- set = strike(t, rows, set, next, counts)
     (λ c κs. (search needs, ((search inside, search (short-member, inside)), search needs)))
     -- next = next_short(need, set, counts)
-    (λ c κs. search needs)
+    (λ c κs. search (strike-below, inside))
     (λ c. search (going-less, inside))
     (λ c.
     let (start, loop, turn, struck) : Start × Loop × tie.In-loop Inv-loop μ-loop × tie.After-strike Inv-loop μ-loop = (search, search, search, search) in
