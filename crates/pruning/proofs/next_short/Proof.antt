@@ -1,9 +1,7 @@
 -- `pruning::next_short`: of the set, whoever is not left to be looked at has enough votes.
 -- Assumes nothing.
-use Prim.Native.Nat.{_<_}
 use native.Mathlib.Omega.{arith}
 use borrow.Author.Needs.{needs}
-use lib.ListN.{length}
 use Rattle.pruning.proofs.Steps.{Looking, looking-first, looking-inside, looking-found, looking-next, looking-less, looking-none}
 use Rattle.pruning.proofs.next_short.Statement.{statement}
 use Rattle.pruning.proofs.next_short.Tie as tie
