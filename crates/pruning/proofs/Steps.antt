@@ -90,7 +90,7 @@ module _ (t : ℕ) (rows : List ℕ) (from i : ℕ) where
     strike-last left h e =
         record {
           without = e;
-          right = replaced-last (votes t rows from) (votes t rows (striking from i)) 0 (size t) counts k h so-far ∙ ap (counted t rows) (sym e);
+          exact = replaced-last (votes t rows from) (votes t rows (striking from i)) 0 (size t) counts k h so-far ∙ ap (counted t rows) (sym e);
         }
 
 -- ---- the next short member
@@ -161,7 +161,7 @@ module _ (need from : ℕ) (counts : List ℕ) where
 pub record Going (t : ℕ) (rows : List ℕ) (set : ℕ) (counts : List ℕ) : Type 0 where
   pub below : set < 2 ^ size t
   pub above : Above t rows set
-  pub right : counts ≡ counted t rows set
+  pub exact : counts ≡ counted t rows set
 
 module _ (t : ℕ) (rows : List ℕ) (table : Table t rows) where
   room : size t ≤ 32
@@ -173,16 +173,16 @@ module _ (t : ℕ) (rows : List ℕ) (table : Table t rows) where
       record {
         below = subst (λ (x : ℕ). x < 2 ^ size t) (sym everybody) (firstOf-lt (size t) room);
         above = subst (Above t rows) (sym (everybody ∙ firstOf-all (size t) room)) (above-all t rows);
-        right = e ∙ ap (counted t rows) (sym everybody);
+        exact = e ∙ ap (counted t rows) (sym everybody);
       }
 
   pub going-below : (set : ℕ) (counts : List ℕ) → Going t rows set counts → set < 2 ^ length counts
-  going-below set counts going = counted-below t rows set counts (going .below) (going .right)
+  going-below set counts going = counted-below t rows set counts (going .below) (going .exact)
 
   module _ (set : ℕ) (counts : List ℕ) (going : Going t rows set counts) where
     count-of : (k : ℕ) → k < size t → getD counts k 0 ≡ votes t rows set k
     unfolding counted
-    count-of k h = ap (λ (l : List ℕ). getD l k 0) (going .right) ∙ getD-tab (size t) (votes t rows set) k 0 h
+    count-of k h = ap (λ (l : List ℕ). getD l k 0) (going .exact) ∙ getD-tab (size t) (votes t rows set) k 0 h
 
     module _ (need i : ℕ) (first : FirstShort need set counts i) where
       -- nobody is short: the set is closed
@@ -195,7 +195,7 @@ module _ (t : ℕ) (rows : List ℕ) (table : Table t rows) where
 
       module _ (inside : i < size t) where
         counted-inside : i < length counts
-        counted-inside = omega (arith, counted-long t rows set counts (going .right))
+        counted-inside = omega (arith, counted-long t rows set counts (going .exact))
 
         pub short-member : has set i ≡ true
         short-member = first .member counted-inside
@@ -216,14 +216,14 @@ module _ (t : ℕ) (rows : List ℕ) (table : Table t rows) where
           left-below = subst (λ (x : ℕ). x < 2 ^ size t) (sym (strike .without)) (lt-of-le-of-lt (striking-le set i narrow (lt-of-lt-of-le inside room)) (going .below))
 
           pub strike-below : left < 2 ^ length after
-          strike-below = counted-below t rows left after left-below (strike .right)
+          strike-below = counted-below t rows left after left-below (strike .exact)
 
           pub going-on : need ≤ t + 1 → Going t rows left after
           going-on most =
               record {
                 below = left-below;
                 above = above-strike t rows set left (going .above) (keeps most);
-                right = strike .right;
+                exact = strike .exact;
               }
 
           pub going-less : left < set

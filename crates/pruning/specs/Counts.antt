@@ -20,4 +20,4 @@ counted t rows set = tab (size t) (votes t rows set)
 -- after member i is struck from the set: those left, and the count of each member is the number of its votes from those left
 pub record AfterStrike (t : ℕ) (rows : List ℕ) (set i left : ℕ) (counts : List ℕ) : Type 0 where
   pub without : left ≡ striking set i
-  pub right : counts ≡ counted t rows left
+  pub exact : counts ≡ counted t rows left

@@ -1,11 +1,12 @@
 -- Document 01's examples of pruning, corners that they leave open, and counts before and after a strike. Proved in proofs/Examples.antt.
 use Prim.Native.Nat.{ℕ, _+_, _-_, _^_}
 use mathlib.Core.Path.{_≡_}
+use mathlib.Core.Bool.{true}
 use mathlib.Core.List.{[], _∷_}
 use lib.ListN.{replicate}
-use Rattle.members.specs.Members.{striking}
+use Rattle.members.specs.Members.{has, striking}
 use Rattle.pruning.specs.Pruning.{Pruned, votes, prune}
-use Rattle.pruning.specs.Counts.{counted, AfterStrike}
+use Rattle.pruning.specs.Counts.{Table, counted, AfterStrike}
 
 -- the answers: survivors, or a refusal
 abbrev pub left : ℕ → Pruned
@@ -49,7 +50,9 @@ pub record Examples : Type 0 where
 
 -- counts before and after a strike
 pub record Strikes : Type 0 where
-  -- C6's counts, and those after member 3 is struck: one vote fewer for members 2 and 3, whom it accepted
+  -- C6's counts, and those after member 3, which is in the set, is struck: one vote fewer for members 2 and 3, whom it accepted
+  pub c6-table : Table 1 (3 ∷ 6 ∷ 4 ∷ [])
+  pub c6-member : has 7 2 ≡ true
   pub c6-counts : counted 1 (3 ∷ 6 ∷ 4 ∷ []) 7 ≡ 2 ∷ 2 ∷ 1 ∷ []
   pub c6-struck : AfterStrike 1 (3 ∷ 6 ∷ 4 ∷ []) 7 2 3 (2 ∷ 1 ∷ 0 ∷ [])
   -- nothing comes off for a member that is not in the set, nor for one that the station has not

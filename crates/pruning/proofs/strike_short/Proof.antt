@@ -51,7 +51,7 @@ strike-short-spec =
     (going-on _ _ (start .pre .0) _ _ (loop .loop .inv .0) _ _ (loop .loop .inv .1) (inside turn) _ _ (struck .strike .ensures) (omega arith), search needs))
     (λ c.
     let (start, loop) : Start × Loop = (search, search) in
-    omega (arith, counted-long _ _ _ _ (start .pre .1), counted-long _ _ _ _ (loop .loop .inv .0 .right)))
+    omega (arith, counted-long _ _ _ _ (start .pre .1), counted-long _ _ _ _ (loop .loop .inv .0 .exact)))
     (λ c.
     let (start, loop) : Start × Loop = (search, search) in
     (going-done _ _ (start .pre .0) _ _ (loop .loop .inv .0) _ _ (loop .loop .inv .1) (omega arith) (omega arith), search needs)))
