@@ -1,5 +1,6 @@
 -- The examples and corners, by computing.
 -- Assumes nothing.
+use borrow.Author.Needs.{needs}
 use Rattle.lists.specs.Tabulate.{tab, count, each}
 use Rattle.members.specs.Members.{size, bit, has, setOf, striking}
 use Rattle.pruning.specs.Pruning.{votes, round, rounds, survivors, prune}
@@ -12,4 +13,4 @@ examples = search
 
 pub strikes : Strikes
 unfolding tab count size bit has setOf striking votes counted
-strikes = search
+strikes = search needs
