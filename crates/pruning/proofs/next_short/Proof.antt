@@ -24,7 +24,7 @@ next-short-spec =
     -- if (counts[i] as usize) < need
     (λ c. let low : tie.After-lowest Inv-loop μ-loop = search in omega (arith, low .lowest .ensures .inside))
     (λ c. search looking-inside)
-    (λ c. omega (arith, c .shared-slice-known2 .given (c .before .lowest .result)))
+    (λ c. let low : tie.After-lowest Inv-loop μ-loop = search in omega (arith, c .shared-slice-known2 .given (low .lowest .result)))
     (λ c. search looking-found)
     -- rest = members::without(rest, i)
     (λ c κs. search needs)
