@@ -1,6 +1,6 @@
-/* Deals a secret to five members, sees that it opens, also from three of them, alters one member's
-   share, and opens what they hand in, through its text: the shares are written down, read back and
-   opened. */
+/* Deals a secret to five members, sees that it opens, also from three of them and with one share that
+   cannot be read, alters one member's share, and opens what they hand in, through its text: the
+   shares are written down, read back and opened. */
 #include "rutzebam.h"
 
 #include <stdio.h>
@@ -29,31 +29,48 @@ static void draw(uint16_t *words, size_t len)
         } while (words[i] > 65520);
 }
 
-/* Opens the shares of the present members: 1 if that gives the secret, and the members given survive
-   and agree. */
+/* Opens the shares of the present members: 1 if that gives the secret, the members given survive and
+   agree, and as many votes as given are mismatched and unread. */
 static int opens(uint32_t present, uint16_t quorum, const uint16_t *shares, const uint16_t *secret,
-                 uint32_t members)
+                 uint32_t members, uint16_t mismatched, uint16_t unread)
 {
-    uint16_t opened[D];
+    uint16_t opened[D], pairs[3];
     uint32_t survivors = 0, agreeing = 0;
     uint16_t number =
-        rutzebam_open(T, present, quorum, shares, SHARES, opened, D, &survivors, &agreeing);
+        rutzebam_open(T, present, quorum, shares, SHARES, opened, D, &survivors, &agreeing, pairs);
     printf("opening: %u, survivors %u, agreeing %u, secret %u %u %u\n", number,
            (unsigned)survivors, (unsigned)agreeing, opened[0], opened[1], opened[2]);
+    printf("votes: accepted %u, mismatched %u, unread %u\n", pairs[RUTZEBAM_ACCEPTED],
+           pairs[RUTZEBAM_MISMATCHED], pairs[RUTZEBAM_UNREAD]);
     for (size_t k = 0; k < D; k++)
         if (opened[k] != secret[k]) return 0;
-    return number == RUTZEBAM_OK && survivors == members && agreeing == members;
+    return number == RUTZEBAM_OK && survivors == members && agreeing == members
+           && pairs[RUTZEBAM_ACCEPTED] == N * N - mismatched - unread
+           && pairs[RUTZEBAM_MISMATCHED] == mismatched && pairs[RUTZEBAM_UNREAD] == unread;
 }
 
 /* Opens the shares of members 1 to 3: 1 if quorum 0 refuses, since it asks for one share more than
    T + 1, and quorum T + 1 gives the secret. */
 static int opens_without_spare(const uint16_t *shares, const uint16_t *secret)
 {
-    uint16_t opened[D];
+    uint16_t opened[D], pairs[3];
     uint32_t survivors = 0, agreeing = 0;
-    uint16_t number = rutzebam_open(T, THREE, 0, shares, SHARES, opened, D, &survivors, &agreeing);
+    uint16_t number =
+        rutzebam_open(T, THREE, 0, shares, SHARES, opened, D, &survivors, &agreeing, pairs);
     printf("opening three with quorum 0: %u\n", number);
-    return number == RUTZEBAM_QUORUM_NOT_MET && opens(THREE, T + 1, shares, secret, THREE);
+    return number == RUTZEBAM_QUORUM_NOT_MET && pairs[RUTZEBAM_ACCEPTED] == 9
+           && opens(THREE, T + 1, shares, secret, THREE, 0, 16);
+}
+
+/* Member 5 hands in a word that is no field word: 1 if the others give the secret, with the pairs of
+   member 5 unread and nothing mismatched. */
+static int opens_with_one_unreadable(uint16_t *shares, const uint16_t *secret)
+{
+    uint16_t word = shares[SHARES - 1];
+    shares[SHARES - 1] = 65535;
+    int done = opens(ALL, 0, shares, secret, ALL - 16, 0, 9);
+    shares[SHARES - 1] = word;
+    return done;
 }
 
 /* Writes the shares of all members as text, and reads them back into words: 1 if that gives what was
@@ -87,14 +104,15 @@ int main(void)
     if (number != RUTZEBAM_OK) return 1;
 
     /* the readings may be deleted only once the shares are seen to open to them */
-    if (!opens(ALL, 0, shares, secret, ALL)) return 1;
+    if (!opens(ALL, 0, shares, secret, ALL, 0, 0)) return 1;
 
     if (!opens_without_spare(shares, secret)) return 1;
+    if (!opens_with_one_unreadable(shares, secret)) return 1;
 
-    /* member 4 comes back with another first word: the others strike it, also where the shares come
-       as text */
+    /* member 4 comes back with another first word: no tag of it fits any more, and the others strike
+       it, also where the shares come as text */
     shares[3 * WIDTH] = (uint16_t)((shares[3 * WIDTH] + 1u) % 65521u);
-    if (!opens(ALL, 0, shares, secret, 23)) return 1;
+    if (!opens(ALL, 0, shares, secret, 23, 5, 0)) return 1;
     if (!hands_in(shares, words)) return 1;
-    return opens(ALL, 0, words, secret, 23) ? 0 : 1;
+    return opens(ALL, 0, words, secret, 23, 5, 0) ? 0 : 1;
 }

@@ -1,6 +1,6 @@
-//! Deals a secret to five members, sees that it opens, also from three of them, alters one member's
-//! share, and opens what they hand in, through its text: the shares are written down, read back and
-//! opened.
+//! Deals a secret to five members, sees that it opens, also from three of them and with one share
+//! that cannot be read, alters one member's share, and opens what they hand in, through its text: the
+//! shares are written down, read back and opened.
 
 unsafe extern "C" {
     fn rutzebam_deal(
@@ -22,6 +22,7 @@ unsafe extern "C" {
         secret_len: usize,
         survivors: *mut u32,
         agreeing: *mut u32,
+        pairs: *mut [u16; 3],
     ) -> u16;
     fn rutzebam_read(
         text: *const u8,
@@ -74,25 +75,26 @@ fn deal(t: usize, secret: &[u16], random: &[u16], shares: &mut [u16]) -> Result<
     if number == 0 { Ok(()) } else { Err(number) }
 }
 
-/// What an opening gives.
+/// What an opening gives. The pairs are how many votes are accepted, mismatched and unread.
 struct Opened {
     secret: Vec<u16>,
     survivors: u32,
     agreeing: u32,
+    pairs: [u16; 3],
 }
 
-/// Opens d words from the shares. An error is the number of the check that failed, and the
-/// survivors.
+/// Opens d words from the shares. An error is the number of the check that failed, the survivors and
+/// the pairs.
 fn open(
     t: usize,
     d: usize,
     present: u32,
     quorum: u16,
     shares: &[u16],
-) -> Result<Opened, (u16, u32)> {
+) -> Result<Opened, (u16, u32, [u16; 3])> {
     let mut secret = vec![0; d];
-    let (mut survivors, mut agreeing) = (0, 0);
-    // As above; the three places written are this function's own.
+    let (mut survivors, mut agreeing, mut pairs) = (0, 0, [0; 3]);
+    // As above; the four places written are this function's own.
     let number = unsafe {
         rutzebam_open(
             t,
@@ -104,6 +106,7 @@ fn open(
             secret.len(),
             &mut survivors,
             &mut agreeing,
+            &mut pairs,
         )
     };
     match number {
@@ -111,8 +114,9 @@ fn open(
             secret,
             survivors,
             agreeing,
+            pairs,
         }),
-        _ => Err((number, survivors)),
+        _ => Err((number, survivors, pairs)),
     }
 }
 
@@ -193,25 +197,27 @@ fn draw(count: usize) -> Vec<u16> {
         .collect()
 }
 
-/// Opens the shares of the present members: an error unless that gives the secret, and the members
-/// given survive and agree.
+/// Opens the shares of the present members: an error unless that gives the secret, the members given
+/// survive and agree, and the pairs are those given.
 fn must_open(
     present: u32,
     quorum: u16,
     shares: &[u16],
     secret: &[u16],
     members: u32,
+    pairs: [u16; 3],
 ) -> Result<(), String> {
     let opened =
         open(T, D, present, quorum, shares).map_err(|refused| format!("opening: {refused:?}"))?;
     let (survivors, agreeing) = (opened.survivors, opened.agreeing);
     println!(
-        "opening: survivors {survivors}, agreeing {agreeing}, secret {:?}",
-        opened.secret
+        "opening: survivors {survivors}, agreeing {agreeing}, pairs {:?}, secret {:?}",
+        opened.pairs, opened.secret
     );
-    match opened.secret == secret && survivors == members && agreeing == members {
+    let as_told = survivors == members && agreeing == members && opened.pairs == pairs;
+    match opened.secret == secret && as_told {
         true => Ok(()),
-        false => Err("another secret or other members".to_string()),
+        false => Err("another secret, other members or other pairs".to_string()),
     }
 }
 
@@ -219,10 +225,18 @@ fn must_open(
 /// more than T + 1, and quorum T + 1 gives the secret.
 fn must_open_without_spare(shares: &[u16], secret: &[u16]) -> Result<(), String> {
     match open(T, D, THREE, 0, shares) {
-        Err((14, _)) => println!("opening three with quorum 0: 14"),
-        _ => return Err("quorum 0 did not ask for a spare".to_string()),
+        Err((14, 0, [9, 0, 16])) => println!("opening three with quorum 0: 14"),
+        _ => return Err("quorum 0 did not ask for a spare, or other pairs".to_string()),
     }
-    must_open(THREE, T as u16 + 1, shares, secret, THREE)
+    must_open(THREE, T as u16 + 1, shares, secret, THREE, [9, 0, 16])
+}
+
+/// Member 5 hands in a word that is no field word: an error unless the others give the secret, with
+/// the pairs of member 5 unread and nothing mismatched.
+fn must_open_with_one_unreadable(shares: &[u16], secret: &[u16]) -> Result<(), String> {
+    let mut shares = shares.to_vec();
+    shares[N * WIDTH - 1] = 65535;
+    must_open(ALL, 0, &shares, secret, ALL - 16, [16, 0, 9])
 }
 
 /// Writes the shares of all members as text, and reads them back: an error unless that gives what
@@ -254,13 +268,14 @@ fn main() -> Result<(), String> {
     println!("dealing: 0");
 
     // The readings may be deleted only once the shares are seen to open to them.
-    must_open(ALL, 0, &shares, &secret, ALL)?;
+    must_open(ALL, 0, &shares, &secret, ALL, [25, 0, 0])?;
 
     must_open_without_spare(&shares, &secret)?;
+    must_open_with_one_unreadable(&shares, &secret)?;
 
-    // Member 4 comes back with another first word: the others strike it, also where the shares come
-    // as text.
+    // Member 4 comes back with another first word: no tag of it fits any more, and the others strike
+    // it, also where the shares come as text.
     shares[3 * WIDTH] = ((shares[3 * WIDTH] as u32 + 1) % 65521) as u16;
-    must_open(ALL, 0, &shares, &secret, 23)?;
-    must_open(ALL, 0, &must_hand_in(&shares)?, &secret, 23)
+    must_open(ALL, 0, &shares, &secret, 23, [20, 5, 0])?;
+    must_open(ALL, 0, &must_hand_in(&shares)?, &secret, 23, [20, 5, 0])
 }

@@ -38,7 +38,7 @@ static uint16_t answer;
 /* What the calls are handed, and where they write. */
 static size_t t, secret_len, random_len, shares_len, rows_len, values_len, coefficients_len, words_len, text_len, tagged_len;
 static uint32_t present, rows[N], survivors, agreeing;
-static uint16_t quorum, secret[D + 1], random_words[RANDOM], shares[SHARES], dealt[SHARES];
+static uint16_t quorum, pairs[3], secret[D + 1], random_words[RANDOM], shares[SHARES], dealt[SHARES];
 static uint16_t values[N], coefficients[T + 1], words[RUTZEBAM_READ_WORDS];
 static uint8_t text[RUTZEBAM_TEXT_BYTES + 1];
 static size_t read_t, read_d;
@@ -55,7 +55,7 @@ static void run_deal(void)
 
 static void run_open(void)
 {
-    RUN(rutzebam_open(t, present, quorum, shares, shares_len, secret, secret_len, &survivors, &agreeing));
+    RUN(rutzebam_open(t, present, quorum, shares, shares_len, secret, secret_len, &survivors, &agreeing, pairs));
 }
 
 static void run_prune(void)

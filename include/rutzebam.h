@@ -6,8 +6,8 @@
    other state, no heap and no output.
 
    A pointer is not null, is aligned, and points to as many elements as the length after it says,
-   also where that is 0; where no length follows, it points to one. What a call writes overlaps
-   nothing else that it is handed. That is all that a caller has to see to.
+   also where that is 0; where no length follows, it points to one, and `pairs` to three. What a call
+   writes overlaps nothing else that it is handed. That is all that a caller has to see to.
 
    t is 1 to 15, n is 2t + 1, and members are numbered 1 to n. A set of members is a mask: member i
    has the value 2 to the power i - 1. A field word is 0 to 65520. A secret has d words, d is 1 to 64.
@@ -38,10 +38,10 @@
 extern "C" {
 #endif
 
-#define RUTZEBAM_VERSION_MAJOR 2
+#define RUTZEBAM_VERSION_MAJOR 3
 #define RUTZEBAM_VERSION_MINOR 0
-#define RUTZEBAM_VERSION_PATCH 1
-#define RUTZEBAM_VERSION "2.0.1"
+#define RUTZEBAM_VERSION_PATCH 0
+#define RUTZEBAM_VERSION "3.0.0"
 
 /* How many words a share has: d share words, n tags and n keys of two words. */
 #define RUTZEBAM_SHARE_WORDS(t, d) ((d) + 3 * (2 * (t) + 1))
@@ -55,6 +55,11 @@ extern "C" {
 #define RUTZEBAM_TEXT_BYTES 40000
 /* The longest text that rutzebam_write writes, in bytes: a buffer of that many is always long enough. */
 #define RUTZEBAM_WRITE_BYTES 29362
+
+/* Where the three counts of rutzebam_open stand in `pairs`. */
+#define RUTZEBAM_ACCEPTED 0
+#define RUTZEBAM_MISMATCHED 1
+#define RUTZEBAM_UNREAD 2
 
 /* What a call answers: done, or the first check that fails. docs/RULES.md says what to do about each. */
 #define RUTZEBAM_OK 0
@@ -86,7 +91,7 @@ extern "C" {
    deepest chain of calls, in the code that `rt staticlib` writes for x86-64; the figures are those
    sums rounded up to a multiple of 256. examples/stack_use.c looks that no call takes more. */
 #define RUTZEBAM_DEAL_STACK_BYTES 768    /* (568) */
-#define RUTZEBAM_OPEN_STACK_BYTES 1792   /* (1704) */
+#define RUTZEBAM_OPEN_STACK_BYTES 1792   /* (1720) */
 #define RUTZEBAM_PRUNE_STACK_BYTES 256   /* (224) */
 #define RUTZEBAM_DECODE_STACK_BYTES 1280 /* (1144) */
 #define RUTZEBAM_TAG_STACK_BYTES 256     /* (40) */
@@ -107,6 +112,13 @@ uint16_t rutzebam_deal(size_t t,
    the present members must have shares of field words alone; 0 stands for t + 2. So with no share to
    spare, t + 1 of them, the quorum t + 1 has to be handed over. `survivors` gets the members that the
    votes leave, `agreeing` those of them whose words lie on the polynomials found.
+   `pairs` gets how everybody's votes on everybody came out, each one's on itself too: how many were
+   accepted; how many were mismatched, because the tag is not that of the share words under the
+   voter's key; how many were unread, because not both members are present with shares of field words
+   alone. So a missing share, or one with a word above 65520, makes unread pairs, and an altered one
+   mismatched pairs where tags no longer fit. 0 mismatched does not say that nothing was altered. The
+   counts are 0 after 1, 2, 11, 12 and 13; else they are the true ones, after 14, 15 and 16 too, and
+   add up to n * n.
    1: t. 2: the secret's length. 11: how many words of shares. 12: a member beyond n is present.
    13: the quorum is neither 0 nor t + 1 to n. 14: the quorum is not met. 15: no survivors.
    16: too few survivors agree. On a refusal every word of the secret is 65535, at whatever length it
@@ -114,7 +126,7 @@ uint16_t rutzebam_deal(size_t t,
 uint16_t rutzebam_open(size_t t, uint32_t present, uint16_t quorum,
                        const uint16_t *shares, size_t shares_len,
                        uint16_t *secret, size_t secret_len,
-                       uint32_t *survivors, uint32_t *agreeing);
+                       uint32_t *survivors, uint32_t *agreeing, uint16_t pairs[3]);
 
 /* The survivors of votes: rows[i - 1] is the mask of those who accept member i. 0 survivors are an
    answer too. 1: t. 10: not n rows. 12: a member beyond n, in any row. On a refusal the survivors

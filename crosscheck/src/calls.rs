@@ -8,7 +8,7 @@ use crate::program;
 use crate::reference::decoding::{Way, decode};
 use crate::reference::program::printed;
 use crate::reference::pruning::prune;
-use crate::reference::sharing::{deal, open, tag};
+use crate::reference::sharing::{Pairs, deal, open, tag};
 use crate::reference::text::{read, write};
 
 /// What is wrong beside the answer: a lent input changed, or a word beside a buffer.
@@ -77,6 +77,7 @@ pub struct Open {
     pub secret: Vec<u16>,
     pub survivors: u32,
     pub agreeing: u32,
+    pub pairs: [u16; 3],
 }
 
 #[derive(Clone, Debug, PartialEq, Eq)]
@@ -85,6 +86,7 @@ pub struct Opened {
     pub secret: Vec<u16>,
     pub survivors: u32,
     pub agreeing: u32,
+    pub pairs: Pairs,
 }
 
 impl Open {
@@ -103,6 +105,7 @@ impl Open {
             secret,
             survivors: opening.survivors,
             agreeing: opening.agreeing,
+            pairs: opening.pairs,
         }
     }
 }

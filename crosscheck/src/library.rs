@@ -5,6 +5,7 @@ use crate::calls::{
     Damage, Deal, Dealt, Decode, Decoded, Open, Opened, Prune, Pruned, Read, ReadAnswer, Tag, Text,
     Write, Written,
 };
+use crate::reference::sharing::Pairs;
 
 unsafe extern "C" {
     fn rutzebam_deal(
@@ -26,6 +27,7 @@ unsafe extern "C" {
         secret_len: usize,
         survivors: *mut u32,
         agreeing: *mut u32,
+        pairs: *mut u16,
     ) -> u16;
     fn rutzebam_prune(t: usize, rows: *const u32, rows_len: usize, survivors: *mut u32) -> u16;
     fn rutzebam_decode(
@@ -154,6 +156,7 @@ pub fn open(call: &Open) -> (Opened, Damage) {
     let mut secret = Lent::new(&call.secret);
     let mut survivors = Lent::one(call.survivors);
     let mut agreeing = Lent::one(call.agreeing);
+    let mut pairs = Lent::new(&call.pairs);
     let number = unsafe {
         rutzebam_open(
             call.t,
@@ -165,6 +168,7 @@ pub fn open(call: &Open) -> (Opened, Damage) {
             secret.len(),
             survivors.pointer(),
             agreeing.pointer(),
+            pairs.pointer(),
         )
     };
     let mut damage = Damage::new();
@@ -172,11 +176,17 @@ pub fn open(call: &Open) -> (Opened, Damage) {
     secret.look("beside the secret", &mut damage);
     survivors.look("beside the survivors", &mut damage);
     agreeing.look("beside the agreeing", &mut damage);
+    pairs.look("beside the pairs", &mut damage);
     let answer = Opened {
         number,
         secret: secret.content().to_vec(),
         survivors: survivors.content()[0],
         agreeing: agreeing.content()[0],
+        pairs: Pairs {
+            accepted: pairs.content()[0],
+            mismatched: pairs.content()[1],
+            unread: pairs.content()[2],
+        },
     };
     (answer, damage)
 }
@@ -305,15 +315,15 @@ pub mod plain {
         }
     }
 
-    /// The refusal number, the survivors and the agreeing ones.
+    /// The refusal number, the survivors, the agreeing ones and the pairs of each kind.
     pub fn open(
         t: usize,
         present: u32,
         quorum: u16,
         shares: &[u16],
         secret: &mut [u16],
-    ) -> (u16, u32, u32) {
-        let (mut survivors, mut agreeing) = (0, 0);
+    ) -> (u16, u32, u32, [u16; 3]) {
+        let (mut survivors, mut agreeing, mut pairs) = (0, 0, [0; 3]);
         let number = unsafe {
             super::rutzebam_open(
                 t,
@@ -325,9 +335,10 @@ pub mod plain {
                 secret.len(),
                 &mut survivors,
                 &mut agreeing,
+                pairs.as_mut_ptr(),
             )
         };
-        (number, survivors, agreeing)
+        (number, survivors, agreeing, pairs)
     }
 
     /// The refusal number and the survivors.

@@ -54,6 +54,11 @@ impl Random {
         (0..count).map(|_| self.word()).collect()
     }
 
+    /// Any three words.
+    pub fn three(&mut self) -> [u16; 3] {
+        [(); 3].map(|_| self.word())
+    }
+
     pub fn bytes(&mut self, count: usize) -> Vec<u8> {
         let drawn = (0..count.div_ceil(8)).flat_map(|_| self.draw().to_le_bytes());
         drawn.take(count).collect()

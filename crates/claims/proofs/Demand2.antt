@@ -1,21 +1,22 @@
 -- Demand 2, for any distinct points, and so for the members' own: from demand 3, where the honest members are all that are present.
 -- Assumes nothing.
-use mathlib.Core.Path.{_≡_, refl, sym, ap, _∙_, subst}
-use mathlib.Core.Bool.{Bool, true, false, _&&_, not}
+use mathlib.Core.Path.{_≡_, sym, ap, _∙_, subst}
+use mathlib.Core.Bool.{Bool, true, _&&_, not}
 use mathlib.Core.List.{List}
-use Prim.Native.Nat.{ℕ, suc, _/_, _^_, _≤_, _<_, zero-le}
-use native.Mathlib.Nat.{le-trans, le-of-eq}
+use Prim.Native.Nat.{ℕ, suc, _-_, _*_, _/_, _^_, _≤_, _<_, zero-le}
+use native.Mathlib.Nat.{le-trans, le-of-eq, mul-le-mul}
+use native.Mathlib.Omega.{arith}
 use lib.Dec.{eqb}
 use lib.ListN.{length}
 use borrow.Author.Tests.{eq-eqb}
-use Rattle.lists.proofs.Bools.{and-intro, same-test}
+use Rattle.lists.proofs.Bools.{and-intro, no-exception, same-test}
 use Rattle.lists.proofs.Count.{count-none}
 use Rattle.lists.proofs.Every.{Every}
 use Rattle.lists.proofs.Tabulate.{all-intro}
 use Rattle.field.specs.Field.{prime}
 use Rattle.polynomial.proofs.Roots.{Distinct}
 use Rattle.members.specs.Members.{size, ownPoints, has, card}
-use Rattle.members.proofs.Masks.{setOf-ext, setOf-has, subsets-equal, card-setOf, card-mono}
+use Rattle.members.proofs.Masks.{setOf-ext, setOf-has, subsets-equal, card-setOf, card-le, card-mono}
 use Rattle.shares.proofs.Places.{word-inside}
 use Rattle.shares.specs.Layout.{shareWord}
 use Rattle.decoding.specs.Decoding.{surplus, agreeing}
@@ -24,12 +25,15 @@ use Rattle.members.proofs.Points.{length-own}
 use Rattle.decoding.proofs.Unique.{agrees, agrees-member}
 use Rattle.dealing.specs.Dealing.{polynomial, dealtShares}
 use Rattle.dealing.proofs.Laws.{Acceptable}
-use Rattle.voting.specs.Votes.{usable, voteRows}
-use Rattle.reconstruction.specs.Reconstruction.{Opened, isQuorum, required, finish}
-use Rattle.voting.proofs.Meaning.{usable-present}
+use Rattle.voting.specs.Votes.{usable, voteRows, Pairs, pairs}
+use Rattle.reconstruction.specs.Reconstruction.{Opened, isQuorum, required, finish, Answered}
+use Rattle.voting.proofs.Counts.{same-pairs}
+use Rattle.voting.proofs.Meaning.{usable-lt, usable-present}
+use Rattle.voting.proofs.Totals.{pairs-total, pairs-unread, none-mismatched}
 use Rattle.reconstruction.proofs.Meaning.{survivor-usable}
 use Rattle.reconstruction.proofs.Opening.{required-least}
-use Rattle.claims.specs.Demands.{AsDealt, altered, Sound, Demand2}
+use Rattle.claims.specs.Demands.{AsDealt, altered, noneMismatched, Sound, Demand2}
+use Rattle.claims.proofs.Honest.{honest-usable, honest-accepts}
 use Rattle.claims.proofs.Demand3.{kept, kept-agrees, dealt-fits, dealt-zero, sound, in-range, dealt-is, second-half}
 
 -- a member whose share is as dealt has its dealt share words
@@ -38,19 +42,16 @@ as-dealt-kept t d present dealt words i s =
     all-intro d (λ k. eqb (shareWord t d words i k) (shareWord t d dealt i k))
     (λ k h. eq-eqb (shareWord t d words i k) (shareWord t d dealt i k) (s .same k (word-inside t d k h)))
 
-no-exception : (a b : Bool) → (a ≡ true → b ≡ true) → a && not b ≡ false
-no-exception true b h = ap not (h refl)
-no-exception false b h = refl
-
 module _ (xs : List ℕ) (distinct : Distinct xs) (t : ℕ) (long : length xs ≡ size t) (secret random : List ℕ)
     (secret-words : Every (λ a. a < prime) secret) (random-words : Every (λ a. a < prime) random)
     (present quorum : ℕ) (words : List ℕ) (inside : present < 2 ^ size t) (is-quorum : isQuorum t quorum ≡ true)
     (met : required t quorum ≤ card (size t) (usable t (length secret) present words))
     (as-dealt : (i : ℕ) → i < size t → has present i ≡ true → AsDealt t (length secret) present (dealtShares xs t secret random) words i) where
+  abbrev able : ℕ
+  able = usable t (length secret) present words
+
   abbrev answer : Opened
-  answer =
-      finish xs t (length secret) quorum (usable t (length secret) present words)
-      (voteRows t (length secret) (usable t (length secret) present words) words) (shareWord t (length secret) words)
+  answer = finish xs t (length secret) quorum able (voteRows t (length secret) able words) (shareWord t (length secret) words)
 
   many : suc t ≤ card (size t) present
   many =
@@ -90,7 +91,7 @@ module _ (xs : List ℕ) (distinct : Distinct xs) (t : ℕ) (long : length xs �
       (λ e. kept-agrees xs t secret random words (answer .survivors) i h (and-intro e (survivor-kept i h e))))
       ∙ setOf-has (size t) (answer .survivors) (known .largest .below)
 
-  pub opens-dealt : answer ≡ record { number = 0; survivors = present; agreeing = present; secret = secret }
+  opens-dealt : answer ≡ record { number = 0; survivors = present; agreeing = present; secret = secret }
   opens-dealt =
       let few : card (size t) (altered t (length secret) (dealtShares xs t secret random) words (answer .survivors)) ≤ surplus t (card (size t) (answer .survivors)) / 2 =
       le-trans (le-of-eq none-altered) zero-le in
@@ -100,6 +101,36 @@ module _ (xs : List ℕ) (distinct : Distinct xs) (t : ℕ) (long : length xs �
       let words-are : answer .secret ≡ secret = r .1 ∙ dealt-zero t secret random secret-words in
       λ i. record { number = r .0 i; survivors = all-survive i; agreeing = same i; secret = words-are i }
 
+  -- all that are present are usable
+  all-usable : able ≡ present
+  all-usable =
+      subsets-equal (size t) able present (usable-lt t (length secret) present words) inside (λ i h u. usable-present t (length secret) present words i h u)
+      (λ i h e. honest-usable xs t secret random random-words present words i h (as-dealt i h e))
+
+  -- and no vote is mismatched
+  pairs-dealt : pairs t (length secret) able words ≡ noneMismatched (size t) (card (size t) present)
+  pairs-dealt =
+      let p : Pairs = pairs t (length secret) able words in
+      let u : ℕ = card (size t) present in
+      let same : card (size t) able ≡ u = ap (card (size t)) all-usable in
+      let unread-are : p .unread ≡ size t * size t - u * u = pairs-unread t (length secret) able words ∙ ap (λ (c : ℕ). size t * size t - c * c) same in
+      let honest : (i : ℕ) → i < size t → has able i ≡ true → AsDealt t (length secret) present (dealtShares xs t secret random) words i =
+      λ i h e. as-dealt i h (usable-present t (length secret) present words i h e) in
+      let none : p .mismatched ≡ 0 =
+      none-mismatched t (length secret) able words (λ i j h k e f. honest-accepts xs t secret random random-words present words i j h k (honest i h e) (honest j k f)) in
+      let fits : u * u ≤ size t * size t = mul-le-mul (card-le (size t) present) (card-le (size t) present) in
+      let accepted-are : p .accepted ≡ u * u = omega (arith, pairs-total t (length secret) able words, none, unread-are, fits) in
+      same-pairs accepted-are none unread-are
+
+  -- the answer is the secret, with the counts
+  pub answers-dealt :
+      (let a : Answered = record { opened = answer; pairs = pairs t (length secret) able words } in a)
+      ≡ record {
+        opened = record { number = 0; survivors = present; agreeing = present; secret = secret };
+        pairs = noneMismatched (size t) (card (size t) present);
+      }
+  answers-dealt i = record { opened = opens-dealt i; pairs = pairs-dealt i }
+
 -- Demand 2.
 pub demand2 : Demand2
 unfolding Demand2
@@ -107,6 +138,6 @@ demand2 t present quorum secret random dealt words dealing handed as-dealt =
     let d : ℕ = length secret in
     let r : Acceptable t secret random (dealing .buffer) = in-range t secret random dealt dealing in
     second-half t secret random dealt dealing present quorum words handed
-    ∙ opens-dealt (ownPoints t) (own-distinct t (r .threshold-high)) t (length-own t) secret random (r .secret-words) (r .random-words) present quorum words
+    ∙ answers-dealt (ownPoints t) (own-distinct t (r .threshold-high)) t (length-own t) secret random (r .secret-words) (r .random-words) present quorum words
     (handed .n-members) (handed .is-quorum) (handed .met)
     (subst (λ (dl : List ℕ). (i : ℕ) → i < size t → has present i ≡ true → AsDealt t d present dl words i) (dealt-is t secret random dealt dealing) as-dealt)

@@ -29,8 +29,8 @@ use Rattle.members.proofs.Points.{length-own}
 use Rattle.decoding.proofs.Unique.{need-most, agrees, card-agreeing}
 use Rattle.dealing.specs.Dealing.{Dealt, polynomial, dealtShares}
 use Rattle.dealing.proofs.Laws.{polynomial-degree, polynomial-zero, word-value, Acceptable, accepted-in-range, accepted-shares}
-use Rattle.voting.specs.Votes.{usable, voteRows}
-use Rattle.reconstruction.specs.Reconstruction.{Opened, required, atZero, finish, reconstruct}
+use Rattle.voting.specs.Votes.{usable, voteRows, pairs}
+use Rattle.reconstruction.specs.Reconstruction.{Opened, required, atZero, finish, Answered, reconstruct}
 use Rattle.reconstruction.proofs.Opening.{finish-opens, reconstruct-finishes}
 use Rattle.claims.specs.Demands.{Dealing, HandedIn, AsDealt, altered, Sound, Demand3}
 use Rattle.claims.specs.General.{Answers, DealtAnywhere}
@@ -143,9 +143,10 @@ module _ (t : ℕ) (secret random dealt : List ℕ) (dealing : Dealing t secret 
 
   -- opening goes on to its second half
   pub second-half : (present quorum : ℕ) (words : List ℕ) → HandedIn t (length secret) present quorum words
-      → reconstruct t (length secret) present quorum words
-      ≡ finish (ownPoints t) t (length secret) quorum (usable t (length secret) present words)
-      (voteRows t (length secret) (usable t (length secret) present words) words) (shareWord t (length secret) words)
+      → let d : ℕ = length secret in
+      let able : ℕ = usable t d present words in
+      reconstruct t d present quorum words
+      ≡ record { opened = finish (ownPoints t) t d quorum able (voteRows t d able words) (shareWord t d words); pairs = pairs t d able words }
   second-half present quorum words handed =
       reconstruct-finishes t (length secret) present quorum words
       (within-intro 1 15 t (in-range .threshold-low) (in-range .threshold-high))
@@ -160,10 +161,10 @@ demand3 t present quorum secret random dealt words dealing handed honest many as
     let r : Acceptable t secret random (dealing .buffer) = in-range t secret random dealt dealing in
     subst
     (λ (dl : List ℕ). ((i : ℕ) → i < size t → has honest i ≡ true → AsDealt t d present dl words i)
-    → Sound (ownPoints t) t d present secret dl words (reconstruct t d present quorum words))
+    → Sound (ownPoints t) t d present secret dl words (reconstruct t d present quorum words .opened))
     (sym (dealt-is t secret random dealt dealing))
     (λ s. subst (Sound (ownPoints t) t d present secret (dealtShares (ownPoints t) t secret random) words)
-    (sym (second-half t secret random dealt dealing present quorum words handed))
+    (sym (ap (λ (a : Answered). a .opened) (second-half t secret random dealt dealing present quorum words handed)))
     (sound (ownPoints t) (own-distinct t (r .threshold-high)) t (length-own t) secret random (r .secret-words) (r .random-words) present quorum words
     (handed .met) honest many s))
     as-dealt

@@ -39,7 +39,7 @@ module _ (xs : List ℕ) (t : ℕ) (secret random : List ℕ) (field : Every (λ
   abbrev rows : List ℕ
   rows = voteRows t (length secret) able words
 
-  honest-usable : (i : ℕ) → i < size t → Same i → has able i ≡ true
+  pub honest-usable : (i : ℕ) → i < size t → Same i → has able i ≡ true
   honest-usable i h s =
       usable-intro t (length secret) present words i h (s .is-present)
       (λ k l. subst (λ (n : ℕ). n < prime) (sym (s .same k l)) (word-field xs t secret random field i k))
@@ -53,7 +53,7 @@ module _ (xs : List ℕ) (t : ℕ) (secret random : List ℕ) (field : Every (λ
       ∙ ap₂ (λ (a b : ℕ). tag a b (shareWords t d dealt i)) (sym (same-α t d words dealt j (sj .same) i hi)) (sym (same-β t d words dealt j (sj .same) i hi))
       ∙ ap (tag (keyα t d words j i) (keyβ t d words j i)) (sym (same-words t d words dealt i (si .same)))
 
-  honest-accepts : (i j : ℕ) → i < size t → j < size t → Same i → Same j → accepts t (length secret) able words j i ≡ true
+  pub honest-accepts : (i j : ℕ) → i < size t → j < size t → Same i → Same j → accepts t (length secret) able words j i ≡ true
   honest-accepts i j hi hj si sj =
       accepts-intro t (length secret) able words j i (honest-usable i hi si) (honest-usable j hj sj) (honest-tag i j hi hj si sj)
 

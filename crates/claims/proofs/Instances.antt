@@ -17,7 +17,7 @@ use Rattle.shares.specs.Layout.{width, assembled, word, shareWords, tagWord, ke
 use Rattle.pruning.specs.Pruning.{votes, round, rounds, survivors}
 use Rattle.decoding.specs.Decoding.{surplus, need, agreeing, through, find}
 use Rattle.dealing.specs.Dealing.{randomLength, polynomial, dealtα, dealtβ, dealtWords, dealtTag, dealtShare, dealtShares, deal}
-use Rattle.voting.specs.Votes.{fieldShare, usable, tagHolds, accepts, voteRows}
+use Rattle.voting.specs.Votes.{fieldShare, usable, tagHolds, vote, isOf, accepts, voteRows, voteTable, countOf, kinds, pairs}
 use Rattle.reconstruction.specs.Reconstruction.{unopened, isQuorum, required, atZero, openedFrom, finish, reconstruct}
 use Rattle.claims.specs.Demands.{Dealing, AsDealt, altered}
 use Rattle.claims.specs.Instances.{Instances}
@@ -46,8 +46,8 @@ dealt-over t secret random dealt e = record { buffer = dealt; accepted = e }
 pub instances : Instances
 unfolding tab all count keep each first concat choose difference product power inverse eval value linear slopes interpolate size ownPoints bit has
     setOf card membersOf surplus need agreeing through find tag width word shareWords tagWord keyα keyβ votes round rounds survivors fieldShare usable
-    tagHolds accepts voteRows unopened isQuorum required atZero openedFrom finish reconstruct randomLength polynomial dealtα dealtβ dealtWords assembled
-    dealtTag dealtShare dealtShares deal altered
+    tagHolds vote isOf accepts voteRows voteTable countOf kinds pairs unopened isQuorum required atZero openedFrom finish reconstruct
+    randomLength polynomial dealtα dealtβ dealtWords assembled dealtTag dealtShare dealtShares deal altered
 instances =
     record {
       by-default = search (lit<, lit≤, as-tested, dealt-over);

@@ -6,4 +6,5 @@ pub mod HandIn
 pub mod Honest
 pub mod Instances
 pub mod Opening
+pub mod Pairs
 pub mod Rules

@@ -4,6 +4,7 @@ use Rattle.claims.specs.Examples.{Examples, Corners}
 use Rattle.claims.specs.General.{Opening, DealtAnywhere}
 use Rattle.claims.specs.HandIn.{ReadsBack, AtMost, AlwaysFits, HandInInstances}
 use Rattle.claims.specs.Instances.{Instances}
+use Rattle.claims.specs.Pairs.{PairCounts}
 use Rattle.claims.specs.Rules.{Rules}
 
 pub record Claims : Type 0 where
@@ -14,6 +15,8 @@ pub record Claims : Type 0 where
   -- demand 3 for any distinct points
   pub opening : Opening
   pub dealt-anywhere : DealtAnywhere
+  -- how many pairs fell to each kind of vote
+  pub pair-counts : PairCounts
   -- what is written as hand-in text is read back; how long it is; why the premises are needed
   pub reads-back : ReadsBack
   pub at-most : AtMost

@@ -2,7 +2,7 @@
 --
 -- Nothing is assumed of the secret and the random words but that dealing accepts them, and nothing of what is handed in but its
 -- length, its mask and its quorum: its words may be any numbers, also those of absent members.
-use Prim.Native.Nat.{ℕ, suc, _*_, _/_, _^_, _≤_, _<_}
+use Prim.Native.Nat.{ℕ, suc, _-_, _*_, _/_, _^_, _≤_, _<_}
 use mathlib.Core.Path.{_≡_}
 use mathlib.Core.Logic.{_⊎_}
 use mathlib.Core.Bool.{true, _&&_, not}
@@ -15,7 +15,7 @@ use Rattle.shares.specs.Layout.{width, word, shareWord}
 use Rattle.pruning.specs.Pruning.{Largest}
 use Rattle.decoding.specs.Decoding.{surplus, agreeing, Fits}
 use Rattle.dealing.specs.Dealing.{deal}
-use Rattle.voting.specs.Votes.{usable, voteRows}
+use Rattle.voting.specs.Votes.{usable, voteRows, Pairs}
 use Rattle.reconstruction.specs.Reconstruction.{Opened, isQuorum, required, atZero, reconstruct}
 
 -- dealing accepts the secret and the random words, and writes the dealt words
@@ -47,6 +47,10 @@ Fitting xs t d words set f = Fits xs t d (shareWord t d words) set f
 abbrev pub agreed : List ℕ → ℕ → ℕ → List ℕ → ℕ → (ℕ → List ℕ) → ℕ
 agreed xs t d words set f = agreeing xs t d (shareWord t d words) set f
 
+-- the pairs of n members, of whom u are usable, where no vote is mismatched
+abbrev pub noneMismatched : ℕ → ℕ → Pairs
+noneMismatched n u = record { accepted = u * u; mismatched = 0; unread = n * n - u * u }
+
 -- what demand 3 says of the answer of opening, where the members have the points xs
 pub record Sound (xs : List ℕ) (t d present : ℕ) (secret dealt words : List ℕ) (answer : Opened) : Type 0 where
   -- the survivors are the largest set for the votes of what is handed in, and hold every member as dealt
@@ -74,7 +78,7 @@ pub record Sound (xs : List ℕ) (t d present : ℕ) (secret dealt words : List 
       → (answer .number ≡ 0) × (answer .secret ≡ secret)
 
 -- Demand 2: the present members are at least t + 1 and meet the quorum, and their shares are as dealt. Then all of them survive and agree,
--- and the answer is the secret.
+-- the answer is the secret, and no vote is mismatched.
 unfoldable pub Demand2 : Type 0
 Demand2 =
     (t present quorum : ℕ) (secret random dealt words : List ℕ)
@@ -82,7 +86,10 @@ Demand2 =
     → HandedIn t (length secret) present quorum words
     → ((i : ℕ) → i < size t → has present i ≡ true → AsDealt t (length secret) present dealt words i)
     → reconstruct t (length secret) present quorum words
-    ≡ record { number = 0; survivors = present; agreeing = present; secret = secret }
+    ≡ record {
+      opened = record { number = 0; survivors = present; agreeing = present; secret = secret };
+      pairs = noneMismatched (size t) (card (size t) present);
+    }
 
 -- Demand 3: at least t + 1 shares are handed in as dealt and the quorum is met, whatever was done to the others.
 unfoldable pub Demand3 : Type 0
@@ -92,4 +99,4 @@ Demand3 =
     → HandedIn t (length secret) present quorum words
     → (honest : ℕ) → suc t ≤ card (size t) honest
     → ((i : ℕ) → i < size t → has honest i ≡ true → AsDealt t (length secret) present dealt words i)
-    → Sound (ownPoints t) t (length secret) present secret dealt words (reconstruct t (length secret) present quorum words)
+    → Sound (ownPoints t) t (length secret) present secret dealt words (reconstruct t (length secret) present quorum words .opened)

@@ -4,4 +4,5 @@ pub mod Examples
 pub mod General
 pub mod HandIn
 pub mod Instances
+pub mod Pairs
 pub mod Rules

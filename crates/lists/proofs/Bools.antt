@@ -1,6 +1,6 @@
 -- Laws of tests.
 -- Assumes nothing.
-use mathlib.Core.Path.{_≡_, refl, sym, _∙_}
+use mathlib.Core.Path.{_≡_, refl, sym, ap, _∙_}
 use mathlib.Core.Logic.{_⊎_, inl, inr}
 use mathlib.Core.Bool.{Bool, true, false, _&&_, _||_, not, true≢false, false≢true}
 use borrow.Author.Tests.{not-true, not-false}
@@ -66,3 +66,8 @@ or-left a b h = rw h
 pub or-elim : (a b : Bool) → a || b ≡ true → (a ≡ true) ⊎ (b ≡ true)
 or-elim true b h = inl refl
 or-elim false b h = inr h
+
+-- nothing passes one test and fails the other, where the first brings the second with it
+pub no-exception : (a b : Bool) → (a ≡ true → b ≡ true) → a && not b ≡ false
+no-exception true b h = ap not (h refl)
+no-exception false b h = refl

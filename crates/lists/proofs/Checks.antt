@@ -9,8 +9,9 @@ use borrow.Author.Tests.{ltb-true, leb-true, le-leb}
 use lib.Dec.{leb, ltb}
 use Rattle.lists.specs.Checks.{Check, _unless_, checked, within, refusal}
 use Rattle.lists.specs.Tabulate.{each}
+use Rattle.lists.proofs.Blocks.{each-every}
 use Rattle.lists.proofs.Bools.{and-intro, and-left, and-right}
-use Rattle.lists.proofs.Every.{Every, none, more}
+use Rattle.lists.proofs.Every.{Every, none, more, every-map}
 
 module _ {A : Type 0} (refuse : ℕ → A) (number : ℕ) (passes : Bool) (later : List Check) (answer : A) where
   -- the first check fails
@@ -20,6 +21,16 @@ module _ {A : Type 0} (refuse : ℕ → A) (number : ℕ) (passes : Bool) (later
   -- the first check passes
   pub check-passes : passes ≡ true → checked refuse (number unless passes ∷ later) answer ≡ checked refuse later answer
   check-passes e = ap (λ (b : Bool). checked refuse (number unless b ∷ later) answer) e
+
+-- what holds of each refusal and of the answer holds of what the checks come to
+pub checked-holds : {A : Type 0} (refuse : ℕ → A) (P : A → Type 0) (cs : List Check) → Every (λ c. P (refuse (c .number))) cs
+    → (answer : A) → P answer → P (checked refuse cs answer)
+checked-holds refuse P [] none answer h = h
+checked-holds refuse P (c ∷ cs) (more p ps) answer h = at (c .passes) (checked-holds refuse P cs ps answer h)
+  where
+    at : (b : Bool) → P (checked refuse cs answer) → P (elim b [ true ↦ checked refuse cs answer | false ↦ refuse (c .number) ])
+    at true rest = rest
+    at false rest = p
 
 module _ {A : Type 0} (refuse : ℕ → A) (number : A → ℕ) (tells : (k : ℕ) → number (refuse k) ≡ k) where
   -- an answer with the number 0 has passed checks whose refusals have other numbers
@@ -48,15 +59,10 @@ module _ {A : Type 0} (refuse : ℕ → A) (number : A → ℕ) (tells : (k : �
   -- every refusal's number fits, so the answer's does
   pub number-fits : (cs : List Check) → each (λ c. leb (c .number) 65535) cs ≡ true → (answer : A) → number answer ≤ 65535
       → number (checked refuse cs answer) ≤ 65535
-  unfolding each
-  number-fits [] below answer h = h
-  number-fits (c ∷ cs) below answer h =
-      at (c .passes) (leb-true (c .number) 65535 (and-left _ _ below)) (number-fits cs (and-right (leb (c .number) 65535) _ below) answer h)
-    where
-      at : (b : Bool) → c .number ≤ 65535 → number (checked refuse cs answer) ≤ 65535
-          → number (elim b [ true ↦ checked refuse cs answer | false ↦ refuse (c .number) ]) ≤ 65535
-      at true high rest = rest
-      at false high rest = omega (arith, tells (c .number))
+  number-fits cs below answer h =
+      checked-holds refuse (λ a. number a ≤ 65535) cs
+      (every-map (λ c e. let f : c .number ≤ 65535 = leb-true (c .number) 65535 e in omega (arith, f, tells (c .number))) (each-every (λ c. leb (c .number) 65535) cs below))
+      answer h
 
 -- ---- low ≤ x ≤ high
 

@@ -2,7 +2,7 @@
 -- Assumes nothing.
 use mathlib.Core.Path.{_≡_, refl, sym, ap, _∙_, subst}
 use mathlib.Core.Logic.{_⊎_, inl, inr}
-use mathlib.Core.Bool.{Bool, true, false, cond, false≢true}
+use mathlib.Core.Bool.{Bool, true, false, cond, not, false≢true}
 use mathlib.Core.Option.{Option, some, Option·some-injective, Option·none-ne-some}
 use mathlib.Core.List.{List, [], _∷_, _++_, map, List·Memᴰ, List·Memᴰ·head, List·Memᴰ·tail, List·Memᴰ·not-nil, List·Memᴰ·cases-cons, List·Memᴰ·append-cases, Memᴰ·cast, Memᴰ·append-left, Memᴰ·append-right, Memᴰ·map, Memᴰ·of-map, Sublistᴰ, Sublistᴰ·slnil, Sublistᴰ·cons, Sublistᴰ·cons-cons, Sublistᴰ·nil-sublist}
 use Prim.Native.Nat.{ℕ, zero, suc, _+_}
@@ -77,6 +77,16 @@ module _ {A : Type 0} where
       at : (b : Bool) (k : List A) {c : ℕ} → length k ≡ c → length (picked b (f 0) k) ≡ cond b 1 0 + c
       at true k e = omega arith
       at false k e = omega arith
+
+  -- those that pass a test and those that do not are all
+  pub keep-split : (p : A → Bool) (l : List A) → length (keep p l) + length (keep (λ x. not (p x)) l) ≡ length l
+  unfolding keep
+  keep-split p [] = refl
+  keep-split p (x ∷ l) = at (p x) (keep p l) (keep (λ y. not (p y)) l) (keep-split p l)
+    where
+      at : (b : Bool) (k m : List A) → length k + length m ≡ length l → length (picked b x k) + length (picked (not b) x m) ≡ suc (length l)
+      at true k m e = omega (arith, e)
+      at false k m e = omega (arith, e)
 
   -- ---- the ways to take k elements
 

@@ -6,6 +6,7 @@ pub mod Choose
 pub mod Common
 pub mod Count
 pub mod Every
+pub mod Grids
 pub mod InPlace
 pub mod StoredBlocks
 pub mod Stores

@@ -19,8 +19,10 @@ use Rattle.members.proofs.Words.{card-32}
 use Rattle.shares.specs.Layout.{shareWord}
 use Rattle.shares.specs.Internal.Shape.{Room}
 use Rattle.shares.specs.declared.Shape.{Shape}
-use Rattle.voting.specs.Votes.{fieldShare, usable, accepts, voteRows}
-use Rattle.voting.proofs.Meaning.{usable-words, row-is}
+use Rattle.voting.specs.Votes.{usable, accepts, voteRows, pairs}
+use Rattle.voting.specs.declared.Pairs.{Pairs}
+use Rattle.voting.specs.Answer.{pairsOf}
+use Rattle.voting.proofs.Meaning.{usable-lt, usable-words, row-is}
 use Rattle.voting.proofs.Rows.{empty-row}
 use Rattle.pruning.specs.declared.Survivors.{Survivors}
 use Rattle.pruning.specs.declared.Survivors.the-variants.{Left, Refused}
@@ -28,7 +30,7 @@ use Rattle.pruning.specs.Answer.{answerOf}
 use Rattle.pruning.specs.Pruning.{Pruned, votes, survivors, prune}
 use Rattle.pruning.proofs.Answers.{accepts as accepted}
 use Rattle.pruning.proofs.Largest.{survivors-largest, survivors-size}
-use Rattle.reconstruction.specs.Reconstruction.{Opened, unopened, required, finish}
+use Rattle.reconstruction.specs.Reconstruction.{Opened, unopened, required, finish, Answered}
 use Rattle.reconstruction.specs.Internal.Steps.{Voted, Decodable, byWords, byVotes, byShares}
 use Rattle.reconstruction.proofs.Opening.{finish-opens}
 
@@ -47,12 +49,12 @@ module _ (t : ℕ) (rows : List ℕ) (h : isThreshold t ≡ true) (long : length
 -- the votes of shares: nobody accepts a member that is not usable
 pub votes-voted : (s : Shape) (words : List ℕ) → Room s words → (able present : ℕ) → able ≡ usable (s .t) (s .d) present words
     → (rows : List ℕ) → rows ≡ voteRows (s .t) (s .d) able words → Voted s able rows words
-unfolding usable voteRows
+unfolding voteRows
 votes-voted s words room able present ea rows er =
     let (t, d) : ℕ × ℕ = (s .t, s .d) in
     let row : ℕ → ℕ = λ i. setOf (size t) (λ j. accepts t d able words j i) in
     record {
-      below = subst (λ (m : ℕ). m < 2 ^ size t) (sym ea) (setOf-lt (size t) (λ i. has present i && fieldShare t d words i));
+      below = subst (λ (m : ℕ). m < 2 ^ size t) (sym ea) (usable-lt t d present words);
       long = ap length er ∙ length-tab (size t) row;
       sets =
           ap (each (isSet (size t))) er
@@ -119,9 +121,14 @@ module _ (s : Shape) (words : List ℕ) (room : Room s words) (able : ℕ) (rows
 
 -- the votes of shares, with the usable members that the code has found
 pub by-votes : (s : Shape) (words : List ℕ) (quorum present able : ℕ) → able ≡ usable (s .t) (s .d) present words
-    → (rows : List ℕ) → rows ≡ voteRows (s .t) (s .d) able words
-    → (answer : Opened) → answer ≡ byVotes s quorum able rows words → answer ≡ byShares s present quorum words
-by-votes s words quorum present able ea rows er answer e =
-    e
-    ∙ ap (λ (r : List ℕ). byVotes s quorum able r words) er
-    ∙ ap (λ (a : ℕ). byVotes s quorum a (voteRows (s .t) (s .d) a words) words) ea
+    → (rows : List ℕ) → rows ≡ voteRows (s .t) (s .d) able words → (p : Pairs) → pairsOf p ≡ pairs (s .t) (s .d) able words
+    → (opened : Opened) → opened ≡ byVotes s quorum able rows words
+    → (let a : Answered = record { opened = opened; pairs = pairsOf p } in a) ≡ byShares s present quorum words
+by-votes s words quorum present able ea rows er p ep opened e i =
+    record {
+      opened =
+          (e
+          ∙ ap (λ (r : List ℕ). byVotes s quorum able r words) er
+          ∙ ap (λ (a : ℕ). byVotes s quorum a (voteRows (s .t) (s .d) a words) words) ea) i;
+      pairs = (ep ∙ ap (λ (a : ℕ). pairs (s .t) (s .d) a words) ea) i;
+    }

@@ -15,12 +15,14 @@ use Rattle.lists.proofs.Bools.{test}
 use Rattle.lists.proofs.Checks.{within-low}
 use Rattle.members.specs.Members.{isThreshold, size, ownPoints, card}
 use Rattle.shares.specs.Layout.{isLength, width, shareWord}
-use Rattle.voting.specs.Votes.{usable, voteRows}
+use Rattle.voting.specs.Votes.{usable, voteRows, noPairs, pairs}
+use Rattle.voting.specs.declared.Pairs.{Pairs}
+use Rattle.voting.specs.Answer.{pairsOf}
 use Rattle.pruning.specs.Pruning.{survivors}
 use Rattle.decoding.specs.Decoding.{find}
 use Rattle.reconstruction.specs.declared.Outcome.the-variants.{Refused}
 use Rattle.reconstruction.specs.Answer.{answerOf}
-use Rattle.reconstruction.specs.Reconstruction.{unopened, isQuorum, required, openedFrom, finish, reconstruct}
+use Rattle.reconstruction.specs.Reconstruction.{Opened, unopened, isQuorum, required, openedFrom, finish, Answered, turnedAway, reconstruct}
 
 -- a quorum that usable members meet, and some survivors: the answer is from the survivors' share words
 pub finish-opens : (xs : List ℕ) (t d quorum able : ℕ) (rows : List ℕ) (y : ℕ → ℕ → ℕ) → required t quorum ≤ card (size t) able → (survivors t rows ≡ 0 → ⊥)
@@ -32,8 +34,9 @@ finish-opens xs t d quorum able rows y met some-left =
 -- input that passes the first five checks
 pub reconstruct-finishes : (t d present quorum : ℕ) (words : List ℕ) → isThreshold t ≡ true → isLength d ≡ true → length words ≡ size t * width t d
     → present < 2 ^ size t → isQuorum t quorum ≡ true
-    → reconstruct t d present quorum words
-    ≡ finish (ownPoints t) t d quorum (usable t d present words) (voteRows t d (usable t d present words) words) (shareWord t d words)
+    → let able : ℕ = usable t d present words in
+    reconstruct t d present quorum words
+    ≡ record { opened = finish (ownPoints t) t d quorum able (voteRows t d able words) (shareWord t d words); pairs = pairs t d able words }
 unfolding reconstruct
 reconstruct-finishes t d present quorum words ht hd hw hp hq =
     rw (ht, hd, eq-eqb (length words) (size t * width t d) hw, lt-ltb present (2 ^ size t) hp, hq)
@@ -69,3 +72,9 @@ module _ (t quorum : ℕ) where
 pub refused-so : (d number survived : ℕ) (secret : List ℕ) → secret ≡ replicate d 65535 → answerOf (Refused number survived) secret ≡ unopened d survived (refusal number)
 unfolding unopened
 refused-so d number survived secret e = rw e
+
+-- and one before the votes
+pub turned-away : (d number : ℕ) (a : Opened) → a ≡ unopened d 0 number → (p : Pairs) → pairsOf p ≡ noPairs
+    → (let r : Answered = record { opened = a; pairs = pairsOf p } in r) ≡ turnedAway d number
+unfolding turnedAway
+turned-away d number a ea p ep i = record { opened = ea i; pairs = ep i }

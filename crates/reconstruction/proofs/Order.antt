@@ -15,7 +15,7 @@ use Rattle.shares.specs.Internal.Shape.{InRange, shapeOf, Station}
 use Rattle.shares.specs.declared.Shape.{Shape}
 use Rattle.shares.proofs.Shapes.{in-range, station}
 use Rattle.shares.proofs.Tests.{wrong-length, right-length, beyond-n, within-n}
-use Rattle.reconstruction.specs.Reconstruction.{Opened, unopened, isQuorum, reconstruct}
+use Rattle.reconstruction.specs.Reconstruction.{Answered, turnedAway, isQuorum, reconstruct}
 use Rattle.reconstruction.specs.Internal.Steps.{byShares}
 use Rattle.reconstruction.proofs.Opening.{reconstruct-finishes}
 
@@ -31,10 +31,10 @@ module _ (t d : ℕ) (s : Shape) (es : s ≡ shapeOf t d) where
   shape-length = sym (ap (λ (z : Shape). z .d) es)
 
 module _ (t d present quorum : ℕ) (words : List ℕ) (b1 : Bool) (e1 : b1 ≡ isThreshold t) where
-  abbrev opened : Opened
-  opened = reconstruct t d present quorum words
+  abbrev answered : Answered
+  answered = reconstruct t d present quorum words
 
-  pub refused-1 : not b1 ≡ true → (answer : Opened) → answer ≡ unopened d 0 1 → answer ≡ opened
+  pub refused-1 : not b1 ≡ true → (answer : Answered) → answer ≡ turnedAway d 1 → answer ≡ answered
   unfolding reconstruct
   refused-1 h answer e = e ∙ sym (rw (fails b1 (isThreshold t) e1 h))
 
@@ -42,7 +42,7 @@ module _ (t d present quorum : ℕ) (words : List ℕ) (b1 : Bool) (e1 : b1 ≡ 
     threshold : isThreshold t ≡ true
     threshold = passes b1 (isThreshold t) e1 y1
 
-    pub refused-2 : not b2 ≡ true → (answer : Opened) → answer ≡ unopened d 0 2 → answer ≡ opened
+    pub refused-2 : not b2 ≡ true → (answer : Answered) → answer ≡ turnedAway d 2 → answer ≡ answered
     unfolding reconstruct
     refused-2 h answer e = e ∙ sym (rw (threshold, fails b2 (within 1 64 d) e2 h))
 
@@ -50,7 +50,7 @@ module _ (t d present quorum : ℕ) (words : List ℕ) (b1 : Bool) (e1 : b1 ≡ 
       in-length : within 1 64 d ≡ true
       in-length = passes b2 (within 1 64 d) e2 y2
 
-      pub refused-11 : (length words ≡ s .n * s .width → ⊥) → (answer : Opened) → answer ≡ unopened d 0 11 → answer ≡ opened
+      pub refused-11 : (length words ≡ s .n * s .width → ⊥) → (answer : Answered) → answer ≡ turnedAway d 11 → answer ≡ answered
       unfolding reconstruct
       refused-11 h answer e = e ∙ sym (rw (threshold, in-length, wrong-length t d s es words h))
 
@@ -61,7 +61,7 @@ module _ (t d present quorum : ℕ) (words : List ℕ) (b1 : Bool) (e1 : b1 ≡ 
         range : InRange t d
         range = in-range t d threshold in-length
 
-        pub refused-12 : f < present → (answer : Opened) → answer ≡ unopened d 0 12 → answer ≡ opened
+        pub refused-12 : f < present → (answer : Answered) → answer ≡ turnedAway d 12 → answer ≡ answered
         unfolding reconstruct
         refused-12 h answer e = e ∙ sym (rw (threshold, in-length, as-long, beyond-n t d s es range present f ef h))
 
@@ -72,12 +72,12 @@ module _ (t d present quorum : ℕ) (words : List ℕ) (b1 : Bool) (e1 : b1 ≡ 
           asked : b3 ≡ isQuorum t quorum
           asked = e3 ∙ ap (λ (z : Shape). isQuorum (z .t) quorum) es
 
-          pub refused-13 : not b3 ≡ true → (answer : Opened) → answer ≡ unopened d 0 13 → answer ≡ opened
+          pub refused-13 : not b3 ≡ true → (answer : Answered) → answer ≡ turnedAway d 13 → answer ≡ answered
           unfolding reconstruct
           refused-13 h answer e =
               e ∙ sym (rw (threshold, in-length, as-long, is-set, fails b3 (isQuorum t quorum) asked h))
 
-          pub goes-on : not b3 ≡ false → (answer : Opened) → answer ≡ byShares s present quorum words → answer ≡ opened
+          pub goes-on : not b3 ≡ false → (answer : Answered) → answer ≡ byShares s present quorum words → answer ≡ answered
           goes-on h answer e =
               e
               ∙ ap (λ (z : Shape). byShares z present quorum words) es

@@ -1,4 +1,5 @@
--- Reconstruction (document 01: opening). It goes in two halves: votes from shares, and the answer from votes and share words.
+-- Reconstruction (document 01: opening). It goes in two halves: votes from shares, and what votes and share words open to. The votes
+-- are counted by their kinds too (document 02, W-204).
 -- Assumes nothing.
 use Prim.Native.Nat.{ℕ, suc, _+_, _*_}
 use mathlib.Core.Bool.{Bool, cond, _||_, not}
@@ -7,15 +8,15 @@ use mathlib.Core.List.{List, [], _∷_}
 use lib.Dec.{leb, eqb}
 use lib.ListN.{length, replicate}
 use Rattle.lists.specs.Tabulate.{tab}
-use Rattle.lists.specs.Checks.{_unless_, checked, within}
+use Rattle.lists.specs.Checks.{Check, _unless_, checked, within}
 use Rattle.polynomial.specs.Polynomial.{value}
 use Rattle.members.specs.Members.{isThreshold, size, ownPoints, isSet, card}
 use Rattle.shares.specs.Layout.{isLength, width, shareWord}
-use Rattle.voting.specs.Votes.{usable, voteRows}
+use Rattle.voting.specs.Votes.{usable, voteRows, Pairs, noPairs, pairs}
 use Rattle.pruning.specs.Pruning.{survivors}
 use Rattle.decoding.specs.Decoding.{agreeing, nth, find}
 
--- what opening answers: 0 or the refusal's number, the survivors, the agreeing survivors, and the secret buffer at exit
+-- what shares open to: 0 or the refusal's number, the survivors, the agreeing survivors, and the secret buffer at exit
 pub record Opened : Type 0 where
   pub number : ℕ
   pub survivors : ℕ
@@ -44,7 +45,7 @@ openedFrom xs t d y survived none = unopened d survived 16
 openedFrom xs t d y survived (some fs) =
     record { number = 0; survivors = survived; agreeing = agreeing xs t d y survived (nth fs); secret = atZero d (nth fs) }
 
--- from the usable members, the vote rows and the share words y to the answer
+-- from the usable members, the vote rows and the share words y to what they open to
 unfoldable pub finish : List ℕ → ℕ → ℕ → ℕ → ℕ → List ℕ → (ℕ → ℕ → ℕ) → Opened
 finish xs t d quorum able rows y =
     let survived : ℕ = survivors t rows in
@@ -52,16 +53,28 @@ finish xs t d quorum able rows y =
     checked (unopened d 0)
     (14 unless leb (required t quorum) (card (size t) able) ∷ 15 unless not (eqb survived 0) ∷ []) answer
 
--- the secret buffer has d words
-unfoldable pub reconstruct : ℕ → ℕ → ℕ → ℕ → List ℕ → Opened
-reconstruct t d present quorum words =
-    let able : ℕ = usable t d present words in
-    let answer : Opened = finish (ownPoints t) t d quorum able (voteRows t d able words) (shareWord t d words) in
-    checked (unopened d 0)
-    (1 unless isThreshold t
+-- what opening answers: what the shares open to, and how many pairs fell to each kind of vote
+pub record Answered : Type 0 where
+  pub opened : Opened
+  pub pairs : Pairs
+
+-- a refusal before the votes: nothing is counted
+unfoldable pub turnedAway : ℕ → ℕ → Answered
+turnedAway d k = record { opened = unopened d 0 k; pairs = noPairs }
+
+-- the checks before the votes, in their order
+abbrev pub checks : ℕ → ℕ → ℕ → ℕ → List ℕ → List Check
+checks t d present quorum words =
+    1 unless isThreshold t
     ∷ 2 unless isLength d
     ∷ 11 unless eqb (length words) (size t * width t d)
     ∷ 12 unless isSet (size t) present
     ∷ 13 unless isQuorum t quorum
-    ∷ [])
-    answer
+    ∷ []
+
+-- the secret buffer has d words
+unfoldable pub reconstruct : ℕ → ℕ → ℕ → ℕ → List ℕ → Answered
+reconstruct t d present quorum words =
+    let able : ℕ = usable t d present words in
+    let opened : Opened = finish (ownPoints t) t d quorum able (voteRows t d able words) (shareWord t d words) in
+    checked (turnedAway d) (checks t d present quorum words) (record { opened = opened; pairs = pairs t d able words })

@@ -1,5 +1,6 @@
 // Reconstruction (document 01: opening): shares to the secret.
 use shares::Shape;
+use voting::Pairs;
 ghost use mathlib.Core.Path.{_≡_};
 ghost use mathlib.Core.Bool.{true, cond, _&&_};
 ghost use Prim.Native.Nat.{suc, _<_, _≤_};
@@ -14,14 +15,20 @@ ghost use Rattle.shares.specs.Internal.Shape.{Station, Room};
 ghost use Rattle.pruning.specs.Pruning.{survivors};
 ghost use Rattle.decoding.specs.Answer.{answerOf as decodedOf};
 ghost use Rattle.decoding.specs.Decoding.{need, find, decodedFrom};
-ghost use Rattle.reconstruction.specs.Answer.{answerOf};
-ghost use Rattle.reconstruction.specs.Reconstruction.{unopened, isQuorum, required, reconstruct as reconstructOf};
+ghost use Rattle.reconstruction.specs.Answer.{answerOf, answeredOf};
+ghost use Rattle.reconstruction.specs.Reconstruction.{unopened, isQuorum, required, turnedAway, reconstruct as reconstructOf};
 ghost use Rattle.reconstruction.specs.Internal.Steps.{Voted, Decodable, byWords, byVotes, byShares};
 
 // Opened, with the survivors and those of them that agree; or refused with document 01's number, and with the survivors if that is 16.
 pub enum Outcome {
     Open { survivors: u32, agreeing: u32 },
     Refused { number: u16, survivors: u32 },
+}
+
+// What the shares open to, and how many pairs fell to each kind of vote.
+pub struct Reconstructed {
+    pub outcome: Outcome,
+    pub pairs: Pairs,
 }
 
 // A refusal fills the secret buffer with 65535.
@@ -246,25 +253,44 @@ fn open_by_votes(
     rows: &mut [u32],
     shares: &[u16],
     secret: &mut [u16],
-) -> Outcome
+) -> Reconstructed
     requires { ⌜ Room s (now shares) ⌝ }
     requires { ⌜ (length (now rows) ≡ s .n) × (length (now secret) ≡ s .d) ⌝ }
-    ensures { λ r. ⌜ answerOf r (now (secret .exit)) ≡ byShares s present quorum (now (shares .entry)) ⌝ }
+    ensures { λ r. ⌜ answeredOf r (now (secret .exit)) ≡ byShares s present quorum (now (shares .entry)) ⌝ }
 {
     let able = voting::usable_members(s, present, shares);
-    voting::fill_rows(s, able, shares, rows);
-    open_voted(s, quorum, able, rows, shares, secret)
+    let pairs = voting::fill_rows(s, able, shares, rows);
+    Reconstructed {
+        outcome: open_voted(s, quorum, able, rows, shares, secret),
+        pairs,
+    }
 }
 
 // The same, with room for the vote rows.
-fn open_shares(s: Shape, present: u32, quorum: u16, shares: &[u16], secret: &mut [u16]) -> Outcome
+fn open_shares(
+    s: Shape,
+    present: u32,
+    quorum: u16,
+    shares: &[u16],
+    secret: &mut [u16],
+) -> Reconstructed
     requires { ⌜ Room s (now shares) ⌝ }
     requires { ⌜ length (now secret) ≡ s .d ⌝ }
-    ensures { λ r. ⌜ answerOf r (now (secret .exit)) ≡ byShares s present quorum (now (shares .entry)) ⌝ }
+    ensures { λ r. ⌜ answeredOf r (now (secret .exit)) ≡ byShares s present quorum (now (shares .entry)) ⌝ }
 {
     let n = s.n;
     let mut rows = [0u32; 31];
     open_by_votes(s, present, quorum, &mut rows[..n], shares, secret)
+}
+
+// A refusal before the votes: nothing is counted.
+fn turn_away(secret: &mut [u16], number: u16) -> Reconstructed
+    ensures { λ r. ⌜ answeredOf r (now (secret .exit)) ≡ turnedAway (length (now (secret .entry))) (refusal number) ⌝ }
+{
+    Reconstructed {
+        outcome: refuse(secret, number, 0),
+        pairs: voting::no_pairs(),
+    }
 }
 
 // Opens the shares of the present members into the secret buffer; refusals 1, 2, 11, 12, 13, 14, 15 and 16.
@@ -274,25 +300,25 @@ pub fn reconstruct(
     quorum: u16,
     shares: &[u16],
     secret: &mut [u16],
-) -> Outcome
-    ensures { λ r. ⌜ answerOf r (now (secret .exit)) ≡ reconstructOf t (length (now (secret .entry))) present quorum (now (shares .entry)) ⌝ }
+) -> Reconstructed
+    ensures { λ r. ⌜ answeredOf r (now (secret .exit)) ≡ reconstructOf t (length (now (secret .entry))) present quorum (now (shares .entry)) ⌝ }
 {
     let d = secret.len();
     if !members::threshold(t) {
-        return refuse(secret, 1, 0);
+        return turn_away(secret, 1);
     }
     if !lists::within(1, 64, d) {
-        return refuse(secret, 2, 0);
+        return turn_away(secret, 2);
     }
     let s = shares::shape_of(t, d);
     if shares.len() != s.n * s.width {
-        return refuse(secret, 11, 0);
+        return turn_away(secret, 11);
     }
     if members::first(s.n) < present {
-        return refuse(secret, 12, 0);
+        return turn_away(secret, 12);
     }
     if !is_quorum(s, quorum) {
-        return refuse(secret, 13, 0);
+        return turn_away(secret, 13);
     }
     open_shares(s, present, quorum, shares, secret)
 }

@@ -10,8 +10,8 @@ use Rattle.members.specs.Members.{size, ownPoints, bit, has, setOf, card, membe
 use Rattle.shares.specs.Layout.{width, word, shareWords, tagWord, keyα, keyβ}
 use Rattle.pruning.specs.Pruning.{votes, round, rounds, survivors}
 use Rattle.decoding.specs.Decoding.{surplus, need, agreeing, through, find}
-use Rattle.voting.specs.Votes.{fieldShare, usable, tagHolds, accepts, voteRows}
-use Rattle.reconstruction.specs.Reconstruction.{unopened, isQuorum, required, atZero, openedFrom, finish, reconstruct}
+use Rattle.voting.specs.Votes.{fieldShare, usable, tagHolds, vote, isOf, accepts, voteRows}
+use Rattle.reconstruction.specs.Reconstruction.{unopened, isQuorum, required, atZero, openedFrom, finish, turnedAway, reconstruct}
 use Rattle.text.specs.Lines.{digits, field, line, before, parts, decimal, leadsWithZero, isNumeral, numerals, isLetter, numbersOf, lineOf}
 use Rattle.handin.specs.Reader.{shareOf, isSome, wordsOr, takeShare, takeNumbers, takeLine, takeLines, unread, placed, readFrom, readNumbers, readLines, read}
 use Rattle.handin.specs.Sample.{lineD, line1, line2, line3, sampleText, keylessText}
@@ -24,7 +24,7 @@ unfolding
     wordsOr takeShare takeNumbers takeLine takeLines unread placed readFrom readNumbers readLines read lineD line1 line2 line3 sampleText keylessText
     ascii tab all count keep each first concat choose difference product power inverse eval value linear slopes interpolate size ownPoints bit has setOf
     card membersOf surplus need agreeing through find tag width word shareWords tagWord keyα keyβ votes round rounds survivors fieldShare usable tagHolds
-    accepts voteRows unopened isQuorum required atZero openedFrom finish reconstruct
+    vote isOf accepts voteRows unopened isQuorum required atZero openedFrom finish turnedAway reconstruct
 examples =
     record {
       c9-printed = refl;

@@ -46,7 +46,7 @@ module _ (text words : List ℕ) {len : ℕ} {r : Outcome} (full : len ≡ capac
       sym
       (ap
       (λ (b : Bool). elim b [
-        | true ↦ printOpened 0 (reconstruct 0 0 0 0 (take (size 0 * width 0 0) words))
+        | true ↦ printOpened 0 (reconstruct 0 0 0 0 (take (size 0 * width 0 0) words) .opened)
         | false ↦ line (ascii "REFUSED") (suc k ∷ 0 ∷ [])
       ])
       (ne-eqb (suc k) 0 (suc-ne-zero k)))

@@ -30,7 +30,7 @@ printOpened d a =
 unfoldable pub printRead : HandIn → List ℕ
 printRead h =
     elim (eqb (h .number) 0) [
-      | true ↦ printOpened (h .d) (reconstruct (h .t) (h .d) (h .present) (h .quorum) (take (size (h .t) * width (h .t) (h .d)) (h .words)))
+      | true ↦ printOpened (h .d) (reconstruct (h .t) (h .d) (h .present) (h .quorum) (take (size (h .t) * width (h .t) (h .d)) (h .words)) .opened)
       | false ↦ line (ascii "REFUSED") (h .number ∷ 0 ∷ [])
     ]
 

@@ -71,7 +71,9 @@ fn open_shares(
     requires { ⌜ (length (now secret) ≤ 64) × (1024 ≤ length (now output)) ⌝ }
     ensures { λ r. ⌜ Written (now (output .entry)) 0 (opening t (length (now (secret .entry))) present quorum (now (shares .entry))) (now (output .exit)) r ⌝ }
 {
-    match reconstruction::reconstruct(t, present, quorum, shares, secret) {
+    let answer = reconstruction::reconstruct(t, present, quorum, shares, secret);
+    let outcome = answer.outcome;
+    match outcome {
         reconstruction::Outcome::Open {
             survivors,
             agreeing,

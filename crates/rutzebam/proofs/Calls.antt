@@ -1,8 +1,10 @@
 -- What a caller in C finds is the definition's answer, for each case of the answer that the inner call gives.
 -- Assumes nothing.
 use mathlib.Core.Path.{_≡_, refl, sym, ap, _∙_}
-use mathlib.Core.List.{List}
+use mathlib.Core.List.{List, [], _∷_}
 use Prim.Native.Nat.{ℕ}
+use native.Mathlib.Omega.{arith}
+use lib.ListN.{length, set}
 use Rattle.pruning.specs.Pruning.{prune}
 use Rattle.pruning.specs.Answer as pruning
 use Rattle.pruning.specs.declared.Survivors.{Survivors}
@@ -18,7 +20,8 @@ use Rattle.dealing.specs.Answer as dealing
 use Rattle.dealing.specs.declared.Outcome as dealing-outcome
 use Rattle.dealing.specs.declared.Outcome.the-variants as dealing-case
 use Rattle.dealing.proofs.Refusals.{dealt-fits}
-use Rattle.reconstruction.specs.Reconstruction.{reconstruct}
+use Rattle.reconstruction.specs.Reconstruction.{Answered, reconstruct}
+use Rattle.reconstruction.specs.declared.Reconstructed.{Reconstructed}
 use Rattle.reconstruction.specs.Answer as reconstruction
 use Rattle.reconstruction.specs.declared.Outcome as reconstruction-outcome
 use Rattle.reconstruction.specs.declared.Outcome.the-variants as reconstruction-case
@@ -32,7 +35,7 @@ use Rattle.handin.specs.declared.Wrote.{Wrote}
 use Rattle.handin.specs.declared.Wrote.the-variants as wrote
 use Rattle.handin.proofs.Sound.{sound}
 use Rattle.handin.proofs.WriterChecks.{written-fits}
-use Rattle.rutzebam.specs.Calls.{dealt, opened, pruned, decoded, handIn, handInText}
+use Rattle.rutzebam.specs.Calls.{dealt, pairsIn, opened, pruned, decoded, handIn, handInText}
 use Rattle.rutzebam.proofs.Numbers.{refused-as}
 
 module _ (t : ℕ) (secret random buffer shares : List ℕ) {r : dealing-outcome.Outcome} (answers : dealing.answerOf r shares ≡ deal t secret random buffer) where
@@ -44,14 +47,30 @@ module _ (t : ℕ) (secret random buffer shares : List ℕ) {r : dealing-outcome
       refused-as (λ a. a .number) (λ n. dealt n shares) (λ n. refl) k (deal t secret random buffer) (dealt-fits t secret random buffer)
       (ap (λ (o : dealing-outcome.Outcome). dealing.answerOf o shares) (sym e) ∙ answers)
 
-module _ (t d present quorum : ℕ) (words secret : List ℕ) {r : reconstruction-outcome.Outcome} (answers : reconstruction.answerOf r secret ≡ reconstruct t d present quorum words) where
-  pub opens : (survived agreed : ℕ) → r ≡ reconstruction-case.Open survived agreed → opened 0 survived agreed secret ≡ reconstruct t d present quorum words
-  opens survived agreed e = ap (λ (o : reconstruction-outcome.Outcome). reconstruction.answerOf o secret) (sym e) ∙ answers
+-- a list of three, written over place by place
+pub three-stored : (l : List ℕ) → length l ≡ 3 → (a b c : ℕ) → set (set (set l 0 a) 1 b) 2 c ≡ a ∷ b ∷ c ∷ []
+three-stored [] e a b c = absurd (omega (arith, e))
+three-stored (x ∷ []) e a b c = absurd (omega (arith, e))
+three-stored (x ∷ y ∷ []) e a b c = absurd (omega (arith, e))
+three-stored (x ∷ y ∷ z ∷ []) e a b c = refl
+three-stored (x ∷ y ∷ z ∷ w ∷ l) e a b c = absurd (omega (arith, e))
 
-  pub open-refuses : (k survived : ℕ) → r ≡ reconstruction-case.Refused k survived → opened k survived 0 secret ≡ reconstruct t d present quorum words
+module _ (t d present quorum : ℕ) (words secret : List ℕ) (r : Reconstructed) (answers : reconstruction.answeredOf r secret ≡ reconstruct t d present quorum words)
+    (pairs : List ℕ) (stored : pairs ≡ r .pairs .accepted ∷ r .pairs .mismatched ∷ r .pairs .unread ∷ []) where
+  -- an answer told by its number and its places
+  told : (o : reconstruction-outcome.Outcome) → r .outcome ≡ o
+      → (let a : Answered = record { opened = reconstruction.answerOf o secret; pairs = pairsIn pairs } in a) ≡ reconstruct t d present quorum words
+  told o e =
+      let back : o ≡ r .outcome = sym e in
+      (λ i. record { opened = reconstruction.answerOf (back i) secret; pairs = pairsIn (stored i) }) ∙ answers
+
+  pub opens : (survived agreed : ℕ) → r .outcome ≡ reconstruction-case.Open survived agreed → opened 0 survived agreed pairs secret ≡ reconstruct t d present quorum words
+  opens survived agreed e = told (reconstruction-case.Open survived agreed) e
+
+  pub open-refuses : (k survived : ℕ) → r .outcome ≡ reconstruction-case.Refused k survived → opened k survived 0 pairs secret ≡ reconstruct t d present quorum words
   open-refuses k survived e =
-      refused-as (λ a. a .number) (λ n. opened n survived 0 secret) (λ n. refl) k (reconstruct t d present quorum words) (opened-fits t d present quorum words)
-      (ap (λ (o : reconstruction-outcome.Outcome). reconstruction.answerOf o secret) (sym e) ∙ answers)
+      refused-as (λ a. a .opened .number) (λ n. opened n survived 0 pairs secret) (λ n. refl) k (reconstruct t d present quorum words)
+      (opened-fits t d present quorum words) (told (reconstruction-case.Refused k survived) e)
 
 module _ (t : ℕ) (rows : List ℕ) {r : Survivors} (answers : pruning.answerOf r ≡ prune t rows) where
   pub prunes : (set : ℕ) → r ≡ survivors.Left set → pruned 0 set ≡ prune t rows

@@ -3,18 +3,28 @@
 -- Assumes nothing.
 use Prim.Native.Nat.{ℕ}
 use mathlib.Core.List.{List}
+use lib.ListN.{getD}
 use Rattle.pruning.specs.Pruning.{Pruned}
 use Rattle.decoding.specs.Decoding.{Decoded}
 use Rattle.dealing.specs.Dealing.{Dealt}
-use Rattle.reconstruction.specs.Reconstruction.{Opened}
+use Rattle.voting.specs.Votes.{Pairs}
+use Rattle.reconstruction.specs.Reconstruction.{Answered}
 use Rattle.handin.specs.Reader.{HandIn}
 use Rattle.handin.specs.Writer.{HandInText}
 
 abbrev pub dealt : ℕ → List ℕ → Dealt
 dealt number shares = record { number = number; shares = shares }
 
-abbrev pub opened : ℕ → ℕ → ℕ → List ℕ → Opened
-opened number survivors agreeing secret = record { number = number; survivors = survivors; agreeing = agreeing; secret = secret }
+-- three counts in one place: accepted, mismatched, unread
+abbrev pub pairsIn : List ℕ → Pairs
+pairsIn place = record { accepted = getD place 0 0; mismatched = getD place 1 0; unread = getD place 2 0 }
+
+abbrev pub opened : ℕ → ℕ → ℕ → List ℕ → List ℕ → Answered
+opened number survivors agreeing pairs secret =
+    record {
+      opened = record { number = number; survivors = survivors; agreeing = agreeing; secret = secret };
+      pairs = pairsIn pairs;
+    }
 
 abbrev pub pruned : ℕ → ℕ → Pruned
 pruned number survivors = record { number = number; survivors = survivors }

@@ -1,6 +1,7 @@
 // The calls for programs in C and Rust, declared in include/rutzebam.h. Each has the contract of the call it makes: the number
 // that is returned is that of the rules, 0 when it is done, and masks and numbers are stored in lent places.
 ghost use mathlib.Core.Path.{_≡_};
+ghost use mathlib.Core.List.{[], _∷_};
 ghost use lib.ListN.{length};
 ghost use Rattle.mac.specs.Tag.{tag as tagOf};
 ghost use Rattle.pruning.specs.Pruning.{prune};
@@ -22,6 +23,16 @@ pub extern "C" fn rutzebam_deal(t: usize, secret: &[u16], random: &[u16], shares
     }
 }
 
+// Stores the three counts in the order accepted, mismatched, unread.
+fn store_pairs(given: voting::Pairs, pairs: &mut [u16])
+    requires { ⌜ length (now pairs) ≡ 3 ⌝ }
+    ensures { λ r. ⌜ now (pairs .exit) ≡ given .accepted ∷ given .mismatched ∷ given .unread ∷ [] ⌝ }
+{
+    pairs[0] = given.accepted;
+    pairs[1] = given.mismatched;
+    pairs[2] = given.unread;
+}
+
 // Opening.
 #[no_mangle]
 pub extern "C" fn rutzebam_open(
@@ -32,10 +43,14 @@ pub extern "C" fn rutzebam_open(
     secret: &mut [u16],
     survivors: &mut u32,
     agreeing: &mut u32,
+    pairs: &mut [u16; 3],
 ) -> u16
-    ensures { λ r. ⌜ opened r (now (survivors .exit)) (now (agreeing .exit)) (now (secret .exit)) ≡ reconstruct t (length (now (secret .entry))) present quorum (now (shares .entry)) ⌝ }
+    ensures { λ r. ⌜ opened r (now (survivors .exit)) (now (agreeing .exit)) (now (pairs .exit)) (now (secret .exit)) ≡ reconstruct t (length (now (secret .entry))) present quorum (now (shares .entry)) ⌝ }
 {
-    match reconstruction::reconstruct(t, present, quorum, shares, secret) {
+    let answer = reconstruction::reconstruct(t, present, quorum, shares, secret);
+    store_pairs(answer.pairs, pairs);
+    let outcome = answer.outcome;
+    match outcome {
         reconstruction::Outcome::Open {
             survivors: survived,
             agreeing: agreed,

@@ -3,7 +3,7 @@
 use mathlib.Core.Path.{_≡_, sym, ap, _∙_}
 use mathlib.Core.Bool.{true, _&&_}
 use mathlib.Core.List.{List}
-use Prim.Native.Nat.{ℕ, _<_}
+use Prim.Native.Nat.{ℕ, _^_, _<_}
 use lib.ListN.{getD}
 use borrow.Author.Tests.{lt-ltb, ltb-true, eq-eqb}
 use Rattle.lists.proofs.Bools.{and-intro, and-left, and-right}
@@ -11,9 +11,14 @@ use Rattle.lists.proofs.Tabulate.{getD-tab, all-intro, all-elim}
 use Rattle.field.specs.Field.{prime, isFieldWord}
 use Rattle.mac.specs.Tag.{tag}
 use Rattle.members.specs.Members.{size, has, setOf}
-use Rattle.members.proofs.Masks.{has-setOf}
+use Rattle.members.proofs.Masks.{has-setOf, setOf-lt}
 use Rattle.shares.specs.Layout.{width, word, shareWords, tagWord, keyα, keyβ}
-use Rattle.voting.specs.Votes.{fieldShare, usable, tagHolds, accepts, voteRows}
+use Rattle.voting.specs.Votes.{fieldShare, usable, tagHolds, vote, accepts, voteRows}
+use Rattle.voting.proofs.Counts.{is-accepted}
+
+pub usable-lt : (t d present : ℕ) (words : List ℕ) → usable t d present words < 2 ^ size t
+unfolding usable
+usable-lt t d present words = setOf-lt (size t) (λ i. has present i && fieldShare t d words i)
 
 module _ (t d present : ℕ) (words : List ℕ) (i : ℕ) (h : i < size t) where
   has-usable : has (usable t d present words) i ≡ has present i && fieldShare t d words i
@@ -40,13 +45,17 @@ rightTag t d words i j = tag (keyα t d words j i) (keyβ t d words j i) (shareW
 
 module _ (t d able : ℕ) (words : List ℕ) where
   module _ (j i : ℕ) where
+    -- j accepts i: both are usable, and tag(i,j) holds
+    pub accepts-is : accepts t d able words j i ≡ has able i && has able j && tagHolds t d words i j
+    unfolding accepts vote
+    accepts-is = is-accepted (has able i && has able j) (tagHolds t d words i j)
+
     pub accepts-intro : has able i ≡ true → has able j ≡ true → tagWord t d words i j ≡ rightTag t d words i j → accepts t d able words j i ≡ true
-    unfolding accepts tagHolds
-    accepts-intro p q e = and-intro (and-intro p q) (eq-eqb (tagWord t d words i j) (rightTag t d words i j) e)
+    unfolding tagHolds
+    accepts-intro p q e = accepts-is ∙ and-intro (and-intro p q) (eq-eqb (tagWord t d words i j) (rightTag t d words i j) e)
 
     pub accepts-usable : accepts t d able words j i ≡ true → has able i && has able j ≡ true
-    unfolding accepts
-    accepts-usable a = and-left (has able i && has able j) (tagHolds t d words i j) a
+    accepts-usable a = and-left (has able i && has able j) (tagHolds t d words i j) (sym accepts-is ∙ a)
 
   module _ (i : ℕ) (h : i < size t) where
     -- row i is the set of those who accept i

@@ -1,2 +1,4 @@
+pub mod Answer
 pub mod Examples
+pub mod Internal
 pub mod Votes

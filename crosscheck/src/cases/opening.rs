@@ -6,7 +6,7 @@ use crate::calls::Open;
 use crate::random::Random;
 use crate::reference::decoding::{Way, polynomial_through};
 use crate::reference::field::{add, mul, sub};
-use crate::reference::sharing::{Layout, points};
+use crate::reference::sharing::{Layout, Pairs, points};
 use crate::reference::{everybody, holds, members, need};
 
 type Kind = fn(&mut Round);
@@ -27,6 +27,7 @@ const KINDS: &[Kind] = &[
     above_the_field,
     absent_garbage,
     nobody_left,
+    known_kinds,
     a_few_words,
     noise,
     lengths,
@@ -109,8 +110,13 @@ fn one_above(random: &mut Random, handed: &mut Handed) {
     if present.is_empty() {
         return;
     }
-    let layout = handed.layout();
     let i = random.pick(&present);
+    raise(random, handed, i);
+}
+
+/// Puts a word above 65520 anywhere in member `i`'s share.
+fn raise(random: &mut Random, handed: &mut Handed, i: usize) {
+    let layout = handed.layout();
     let place = layout.word(i, random.below(layout.width()));
     handed.shares[place] = random.above();
 }
@@ -444,6 +450,85 @@ fn nobody_left(round: &mut Round) {
     handed.open(round, "one vote short");
 }
 
+/// Votes whose kinds are known beforehand: altered members forge all their tags, then some votes
+/// are spoilt one by one, and then some members get a word above 65520.
+fn known_kinds(round: &mut Round) {
+    let kind = "kinds known beforehand";
+    let station = Station::some(round);
+    let mut handed = station.hand_in(&mut round.random);
+    let count = round.random.within(0, handed.surplus() / 2 + 1);
+    let moved = round.random.choose(handed.present, count);
+    for i in members(moved) {
+        handed.alter(&mut round.random, i, 0);
+    }
+    handed.forge(moved, station.everybody());
+    let spoilt = some_pairs(&mut round.random, station.layout.n);
+    for (i, j) in &spoilt {
+        spoil_either(&mut round.random, &mut handed, *i, *j);
+    }
+    let any = round.random.within(0, handed.present.count_ones() as usize);
+    let count = round.random.pick(&[0, 1, any]);
+    let unusable = round.random.choose(handed.present, count);
+    for i in members(unusable) {
+        raise(&mut round.random, &mut handed, i);
+    }
+    let usable = handed.present & !unusable;
+    near_quorum(&mut round.random, &mut handed, usable);
+    let call = handed.call(&mut round.random);
+    let answer = handed.open(round, kind);
+    let right = answer.pairs == kinds(station.layout.n, usable, &spoilt);
+    let what = "not the votes that were made";
+    round.ledger.demand(right, kind, &call, what, &answer);
+    let own = spoilt.iter().all(|(i, j)| i == j);
+    if answer.number == 0 && answer.pairs.mismatched > 0 && own {
+        round
+            .ledger
+            .note("open: opened, members mismatched by themselves alone");
+    }
+}
+
+/// Some pairs (i, i) alone, a few pairs, or about half of all.
+fn some_pairs(random: &mut Random, n: usize) -> Vec<(usize, usize)> {
+    let style = random.below(3);
+    let all = (1..=n).flat_map(|i| (1..=n).map(move |j| (i, j)));
+    let chosen = |(i, j): &(usize, usize)| match style {
+        0 => i == j && random.coin(),
+        1 => random.once_in(n),
+        _ => random.coin(),
+    };
+    all.filter(chosen).collect()
+}
+
+/// Makes tag(i, j) fail, by itself or by the key that judges it, and no other tag.
+fn spoil_either(random: &mut Random, handed: &mut Handed, i: usize, j: usize) {
+    if random.coin() {
+        handed.spoil(random, i, j);
+    } else {
+        let beta = handed.layout().key(j, i) + 1;
+        handed.shares[beta] = random.other(handed.shares[beta]);
+    }
+}
+
+/// A quorum that is allowed: 0, the least, or one that is just met or missed by one.
+fn near_quorum(random: &mut Random, handed: &mut Handed, usable: u32) {
+    let (low, n) = (handed.station.t as u16 + 1, handed.layout().n as u16);
+    let count = usable.count_ones() as u16;
+    let near = [count, count + 1].map(|quorum| quorum.clamp(low, n));
+    handed.quorum = random.pick(&[0, low, near[0], near[1]]);
+}
+
+/// How many votes there are of each kind if just these are spoilt.
+fn kinds(n: usize, usable: u32, spoilt: &[(usize, usize)]) -> Pairs {
+    let read = |(i, j): &&(usize, usize)| holds(usable, *i) && holds(usable, *j);
+    let mismatched = spoilt.iter().filter(read).count();
+    let both = (usable.count_ones() as usize).pow(2);
+    Pairs {
+        accepted: (both - mismatched) as u16,
+        mismatched: mismatched as u16,
+        unread: (n * n - both) as u16,
+    }
+}
+
 /// A few words changed anywhere, to anything.
 fn a_few_words(round: &mut Round) {
     let station = Station::some(round);
@@ -501,6 +586,7 @@ fn lengths(round: &mut Round) {
             secret: round.random.words(d),
             survivors: round.random.mask(),
             agreeing: round.random.mask(),
+            pairs: round.random.three(),
         };
         round.ledger.compare("opening with any lengths", &call);
     }

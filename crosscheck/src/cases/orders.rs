@@ -214,6 +214,7 @@ impl Faulty for Open {
             secret: random.words(d),
             survivors: random.mask(),
             agreeing: random.mask(),
+            pairs: random.three(),
         }
     }
 

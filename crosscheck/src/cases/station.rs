@@ -2,8 +2,9 @@
 
 use super::{Round, program};
 use crate::calls::{Deal, Open, Opened};
+use crate::compare::Ledger;
 use crate::random::Random;
-use crate::reference::sharing::{Layout, random_words, same_share, usable};
+use crate::reference::sharing::{Layout, Pairs, random_words, same_share, usable};
 use crate::reference::{everybody, members};
 
 /// How the keys of a dealing are made.
@@ -143,19 +144,27 @@ impl Handed<'_> {
         usable(self.layout(), self.present, &self.shares)
     }
 
-    /// Opens by both sides, checks the demands and notes the classes. Now and then the program
-    /// opens it too.
-    pub fn open(&self, round: &mut Round, kind: &str) -> Opened {
-        let call = Open {
+    /// The call that opens it.
+    pub fn call(&self, random: &mut Random) -> Open {
+        Open {
             t: self.station.t,
             present: self.present,
             quorum: self.quorum,
             shares: self.shares.clone(),
-            secret: round.random.words(self.layout().d),
-            survivors: round.random.mask(),
-            agreeing: round.random.mask(),
-        };
+            secret: random.words(self.layout().d),
+            survivors: random.mask(),
+            agreeing: random.mask(),
+            pairs: random.three(),
+        }
+    }
+
+    /// Opens by both sides, checks the demands and notes the classes. Now and then the program
+    /// opens it too.
+    pub fn open(&self, round: &mut Round, kind: &str) -> Opened {
+        let call = self.call(&mut round.random);
         let answer = round.ledger.compare(kind, &call);
+        self.check_pairs(round.ledger, kind, &call, &answer);
+        self.note_pairs(round.ledger, &answer);
         if matches!(answer.number, 0 | 15 | 16) {
             self.check_demands(round, kind, &call, &answer);
             self.note(round, &answer);
@@ -215,6 +224,54 @@ impl Handed<'_> {
         }
     }
 
+    /// The pairs add up to n times n, or to 0 where nobody was looked at. Members whose shares are
+    /// as dealt accept each other; if nobody else is present, nothing is mismatched.
+    fn check_pairs(&self, ledger: &mut Ledger, kind: &str, call: &Open, answer: &Opened) {
+        let Pairs {
+            accepted,
+            mismatched,
+            unread,
+        } = answer.pairs;
+        let n = self.layout().n as u16;
+        let looked = matches!(answer.number, 0 | 14 | 15 | 16);
+        let all = if looked { n * n } else { 0 };
+        let whole = accepted + mismatched + unread == all;
+        ledger.demand(whole, kind, call, "the pairs do not add up", answer);
+        if !looked {
+            return;
+        }
+        let honest = self.as_dealt();
+        let each_other = (honest.count_ones() as u16).pow(2);
+        let kept = accepted >= each_other;
+        let what = "shares as dealt do not accept each other";
+        ledger.demand(kept, kind, call, what, answer);
+        if honest == self.present {
+            let clean = accepted == each_other && mismatched == 0;
+            ledger.demand(clean, kind, call, "a mismatch with all as dealt", answer);
+        }
+    }
+
+    /// Notes what kinds of votes came together.
+    fn note_pairs(&self, ledger: &mut Ledger, answer: &Opened) {
+        let Pairs {
+            accepted,
+            mismatched,
+            unread,
+        } = answer.pairs;
+        let number = answer.number;
+        if accepted > 0 && mismatched > 0 && unread > 0 {
+            ledger.note(format!("open: {number}, votes of all three kinds"));
+        }
+        if accepted > 0 && mismatched == 0 {
+            if number == 14 {
+                ledger.note("open: 14, nothing mismatched");
+            }
+            if self.usable() != self.present {
+                ledger.note("open: an unusable member present, nothing mismatched");
+            }
+        }
+    }
+
     fn note(&self, round: &mut Round, answer: &Opened) {
         if answer.survivors == 0 {
             return;
@@ -249,7 +306,7 @@ impl Handed<'_> {
     }
 }
 
-fn note_opened(ledger: &mut crate::compare::Ledger, surplus: usize, altered: usize) {
+fn note_opened(ledger: &mut Ledger, surplus: usize, altered: usize) {
     ledger.note(format!("open: opened, surplus {surplus}"));
     if altered > 0 {
         ledger.note("open: opened with altered survivors");

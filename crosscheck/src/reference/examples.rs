@@ -4,7 +4,7 @@ use super::decoding::{Way, decode};
 use super::field::{inverse, mul};
 use super::program::printed;
 use super::pruning::prune;
-use super::sharing::{Opening, deal, open, tag};
+use super::sharing::{Opening, Pairs, deal, open, tag};
 use super::text::{ROOM, Reading, read, write};
 
 const TEXT: &str = "D\t1\t1\t0\n\
@@ -41,11 +41,18 @@ fn opened_by(quorum: u16, t: usize, present: u32, shares: &[u16], d: usize) -> (
     (opening, secret)
 }
 
-fn expected(number: u16, survivors: u32, agreeing: u32) -> Opening {
+/// The pairs are those accepted, mismatched and unread.
+fn expected(number: u16, survivors: u32, agreeing: u32, pairs: [u16; 3]) -> Opening {
+    let [accepted, mismatched, unread] = pairs;
     Opening {
         number,
         survivors,
         agreeing,
+        pairs: Pairs {
+            accepted,
+            mismatched,
+            unread,
+        },
     }
 }
 
@@ -78,7 +85,8 @@ fn c5_and_c9() {
     assert!(words[30..].iter().all(|w| *w == 0));
     let mut shares = words[..30].to_vec();
     let (opening, secret) = opened(1, 7, &shares, 1);
-    assert_eq!((opening, secret), (expected(0, 3, 3), vec![250]));
+    // nobody accepts member 3, not even itself
+    assert_eq!((opening, secret), (expected(0, 3, 3, [6, 3, 0]), vec![250]));
     shares[20] = 259;
     assert_eq!(shares, c5(numbered_keys()));
 }
@@ -94,14 +102,76 @@ fn c6_to_c8() {
 fn c10_to_c12() {
     let mut shares = c5([0; 18]);
     shares[20] = 300;
-    assert_eq!(opened(1, 7, &shares, 1), (expected(16, 7, 0), vec![65535]));
+    let all = expected(16, 7, 0, [9, 0, 0]);
+    assert_eq!(opened(1, 7, &shares, 1), (all, vec![65535]));
     let shares = c5(numbered_keys());
-    assert_eq!(opened(1, 1, &shares, 1), (expected(14, 0, 0), vec![65535]));
-    assert_eq!(
-        opened_by(2, 1, 3, &shares, 1),
-        (expected(0, 3, 3), vec![250])
-    );
-    assert_eq!(opened(1, 3, &shares, 1), (expected(14, 0, 0), vec![65535]));
+    let alone = expected(14, 0, 0, [1, 0, 8]);
+    assert_eq!(opened(1, 1, &shares, 1), (alone, vec![65535]));
+    let two = expected(0, 3, 3, [4, 0, 5]);
+    assert_eq!(opened_by(2, 1, 3, &shares, 1), (two, vec![250]));
+    let two = expected(14, 0, 0, [4, 0, 5]);
+    assert_eq!(opened(1, 3, &shares, 1), (two, vec![65535]));
+}
+
+#[test]
+fn how_a_vote_failed() {
+    // member 3 is altered, member 2's last word is no field word: 1 and 3 accept 1, and nobody else
+    let mut shares = handed_in();
+    shares[19] = 65521;
+    let refused = |number| (expected(number, 0, 0, [2, 2, 5]), vec![65535]);
+    assert_eq!(opened(1, 7, &shares, 1), refused(14));
+    assert_eq!(opened_by(3, 1, 7, &shares, 1), refused(14));
+    assert_eq!(opened_by(2, 1, 7, &shares, 1), refused(15));
+    // as if member 2 were not there
+    assert_eq!(opened_by(2, 1, 5, &shares, 1), refused(15));
+    // without member 1: the one pair that is read is (3, 3)
+    let alone = expected(14, 0, 0, [0, 1, 8]);
+    assert_eq!(opened(1, 6, &shares, 1), (alone, vec![65535]));
+    let nobody = expected(14, 0, 0, [0, 0, 9]);
+    assert_eq!(opened(1, 2, &shares, 1), (nobody, vec![65535]));
+    assert_eq!(opened(1, 0, &shares, 1), (nobody, vec![65535]));
+    // tag(2, 2) altered: all but member 2 itself accept it
+    let mut shares = c5(numbered_keys());
+    shares[12] = 515;
+    let others = expected(0, 7, 7, [8, 1, 0]);
+    assert_eq!(opened(1, 7, &shares, 1), (others, vec![250]));
+    // C10 with tag(1, 2) altered
+    let mut shares = c5([0; 18]);
+    shares[20] = 300;
+    shares[2] = 1;
+    let one = expected(16, 7, 0, [8, 1, 0]);
+    assert_eq!(opened(1, 7, &shares, 1), (one, vec![65535]));
+}
+
+#[test]
+fn no_pairs_before_anybody_is_looked_at() {
+    let shares = handed_in();
+    let none = |number| expected(number, 0, 0, [0; 3]);
+    assert_eq!(opened(0, 7, &shares, 1).0, none(1));
+    assert_eq!(opened(16, 7, &shares, 1).0, none(1));
+    assert_eq!(opened(1, 7, &shares, 0).0, none(2));
+    assert_eq!(opened(1, 7, &shares, 65).0, none(2));
+    assert_eq!(opened(1, 7, &shares[1..], 1).0, none(11));
+    assert_eq!(opened(1, 15, &shares, 1).0, none(12));
+    assert_eq!(opened_by(1, 1, 7, &shares, 1).0, none(13));
+    assert_eq!(opened_by(4, 1, 7, &shares, 1).0, none(13));
+}
+
+#[test]
+fn pairs_at_full_size() {
+    let mut shares = vec![0; 31 * 94];
+    let all = (1 << 31) - 1;
+    let opening = |present, shares: &[u16]| {
+        let mut secret = [9];
+        open(15, present, 0, shares, &mut secret, Way::Elimination)
+    };
+    assert_eq!(opening(all, &shares), expected(0, all, all, [961, 0, 0]));
+    assert_eq!(opening(0, &shares), expected(14, 0, 0, [0, 0, 961]));
+    // every tag 1, where the keys ask for 0
+    for share in shares.chunks_mut(94) {
+        share[1..32].fill(1);
+    }
+    assert_eq!(opening(all, &shares), expected(15, 0, 0, [0, 961, 0]));
 }
 
 #[test]
@@ -124,12 +194,11 @@ fn quorum_0_asks_for_a_spare() {
 fn c13_and_c14() {
     let mut shares = vec![0; 85];
     shares[51] = 1;
-    assert_eq!(opened(2, 31, &shares, 2), (expected(0, 31, 23), vec![0, 0]));
+    let one = expected(0, 31, 23, [25, 0, 0]);
+    assert_eq!(opened(2, 31, &shares, 2), (one, vec![0, 0]));
     shares[69] = 1;
-    assert_eq!(
-        opened(2, 31, &shares, 2),
-        (expected(16, 31, 0), vec![65535; 2])
-    );
+    let two = expected(16, 31, 0, [25, 0, 0]);
+    assert_eq!(opened(2, 31, &shares, 2), (two, vec![65535; 2]));
 }
 
 #[test]

@@ -132,19 +132,38 @@ fn write_tags(layout: Layout, shares: &mut [u16]) {
     }
 }
 
+/// How the test of one tag comes out.
+#[derive(Clone, Copy, PartialEq, Eq)]
+enum Vote {
+    Accepted,
+    Mismatched,
+    /// Not both members are usable.
+    Unread,
+}
+
+/// How many pairs of members come out each way.
+#[derive(Clone, Copy, Debug, Default, PartialEq, Eq)]
+pub struct Pairs {
+    pub accepted: u16,
+    pub mismatched: u16,
+    pub unread: u16,
+}
+
 /// What opening returns beside the secret.
 #[derive(Clone, Copy, Debug, PartialEq, Eq)]
 pub struct Opening {
     pub number: u16,
     pub survivors: u32,
     pub agreeing: u32,
+    pub pairs: Pairs,
 }
 
-fn refused(number: u16) -> Opening {
+fn refused(number: u16, pairs: Pairs) -> Opening {
     Opening {
         number,
         survivors: 0,
         agreeing: 0,
+        pairs,
     }
 }
 
@@ -160,16 +179,18 @@ pub fn open(
     secret.fill(BLANK);
     let layout = match judged(t, present, quorum, shares, secret.len()) {
         Ok(layout) => layout,
-        Err(number) => return refused(number),
+        Err(number) => return refused(number, Pairs::default()),
     };
     let usable = usable(layout, present, shares);
+    let votes = votes(layout, usable, shares);
+    let pairs = counted(&votes);
     let asked = if quorum == 0 { t + 2 } else { quorum as usize };
     if (usable.count_ones() as usize) < asked {
-        return refused(14);
+        return refused(14, pairs);
     }
-    let survivors = survivors(t, &votes(layout, usable, shares));
+    let survivors = survivors(t, &rows(&votes));
     if survivors == 0 {
-        return refused(15);
+        return refused(15, pairs);
     }
     let found = match way {
         Way::Elimination => word_by_word(t, layout, survivors, shares),
@@ -178,7 +199,7 @@ pub fn open(
     let Some((values, agreeing)) = found else {
         return Opening {
             survivors,
-            ..refused(16)
+            ..refused(16, pairs)
         };
     };
     secret.copy_from_slice(&values);
@@ -186,6 +207,7 @@ pub fn open(
         number: 0,
         survivors,
         agreeing,
+        pairs,
     }
 }
 
@@ -224,17 +246,40 @@ pub fn usable(layout: Layout, present: u32, shares: &[u16]) -> u32 {
     kept.fold(0, |set, i| set | 1 << (i - 1))
 }
 
-/// The vote rows: who accepts member 1, who accepts member 2, and so on.
-pub fn votes(layout: Layout, usable: u32, shares: &[u16]) -> Vec<u32> {
-    let mut rows = vec![0; layout.n];
-    for i in members(usable) {
-        for j in members(usable) {
-            if shares[layout.tag(i, j)] == layout.asked(shares, i, j) {
-                rows[i - 1] |= 1 << (j - 1);
-            }
-        }
+/// How member `j` votes on member `i`.
+fn vote(layout: Layout, usable: u32, shares: &[u16], i: usize, j: usize) -> Vote {
+    if !holds(usable, i) || !holds(usable, j) {
+        return Vote::Unread;
     }
-    rows
+    match shares[layout.tag(i, j)] == layout.asked(shares, i, j) {
+        true => Vote::Accepted,
+        false => Vote::Mismatched,
+    }
+}
+
+/// All votes: on member 1 by each member in turn, on member 2, and so on.
+fn votes(layout: Layout, usable: u32, shares: &[u16]) -> Vec<Vec<Vote>> {
+    let on = |i| (1..=layout.n).map(move |j| vote(layout, usable, shares, i, j));
+    (1..=layout.n).map(|i| on(i).collect()).collect()
+}
+
+/// Goes through all votes once for each kind.
+fn counted(votes: &[Vec<Vote>]) -> Pairs {
+    let of = |kind| votes.iter().flatten().filter(|v| **v == kind).count() as u16;
+    Pairs {
+        accepted: of(Vote::Accepted),
+        mismatched: of(Vote::Mismatched),
+        unread: of(Vote::Unread),
+    }
+}
+
+/// The vote rows: who accepts member 1, who accepts member 2, and so on.
+fn rows(votes: &[Vec<Vote>]) -> Vec<u32> {
+    let row = |on: &Vec<Vote>| {
+        let accepting = (1..=on.len()).filter(|j| on[j - 1] == Vote::Accepted);
+        accepting.fold(0, |set, j| set | 1 << (j - 1))
+    };
+    votes.iter().map(row).collect()
 }
 
 /// Word `k` of each member of the set.

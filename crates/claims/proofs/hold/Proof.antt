@@ -6,6 +6,7 @@ use Rattle.claims.proofs.Examples.{examples, corners}
 use Rattle.claims.proofs.HandIn.{reads-back, at-most, always-fits, hand-in-instances}
 use Rattle.claims.proofs.Instances.{instances}
 use Rattle.claims.proofs.Opening.{opening}
+use Rattle.claims.proofs.Pairs.{pair-counts}
 use Rattle.claims.proofs.Rules.{rules}
 use Rattle.claims.proofs.hold.Statement.{statement}
 use Rattle.claims.proofs.hold.Tie as tie
@@ -21,6 +22,7 @@ hold-spec =
       instances = instances;
       opening = opening;
       dealt-anywhere = dealt-anywhere;
+      pair-counts = pair-counts;
       reads-back = reads-back;
       at-most = at-most;
       always-fits = always-fits;

@@ -11,9 +11,9 @@ open-by-votes-spec =
     (tie.spec
     -- let able = voting::usable_members(s, present, shares)
     (λ c κs. search needs)
-    -- voting::fill_rows(s, able, shares, rows)
+    -- let pairs = voting::fill_rows(s, able, shares, rows)
     (λ c κs. search needs)
-    -- open_voted(s, quorum, able, rows, shares, secret)
+    -- Reconstructed { outcome: open_voted(s, quorum, able, rows, shares, secret), pairs }
     (λ c κs. (search needs, (search votes-voted, search needs)))
     (λ c. search needs)
     (λ c. search needs)

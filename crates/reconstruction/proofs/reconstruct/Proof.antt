@@ -22,29 +22,29 @@ pub reconstruct-spec : {M : Type 1} → statement M
 reconstruct-spec =
     tie.close
     (tie.spec
-    -- if !members::threshold(t) { return refuse(secret, 1, 0) }
+    -- if !members::threshold(t) { return turn_away(secret, 1) }
     (λ c κs. search needs)
     (λ c κs. search needs)
     (λ c. search needs)
     (λ c. search refused-1)
-    -- if !lists::within(1, 64, d) { return refuse(secret, 2, 0) }
+    -- if !lists::within(1, 64, d) { return turn_away(secret, 2) }
     (λ c κs. search needs)
     (λ c κs. search needs)
     (λ c. search needs)
     (λ c. search refused-2)
     -- let s = shares::shape_of(t, d)
     (λ c κs. passed (search))
-    -- if shares.len() != s.n * s.width { return refuse(secret, 11, 0) }
+    -- if shares.len() != s.n * s.width { return turn_away(secret, 11) }
     (λ c. let made : tie.After-shape-of = search in omega (arith, station made .all-fit))
     (λ c κs. search needs)
     (λ c. search needs)
     (λ c. search refused-11)
-    -- if members::first(s.n) < present { return refuse(secret, 12, 0) }
+    -- if members::first(s.n) < present { return turn_away(secret, 12) }
     (λ c κs. search needs)
     (λ c κs. search needs)
     (λ c. search needs)
     (λ c. search refused-12)
-    -- if !is_quorum(s, quorum) { return refuse(secret, 13, 0) }
+    -- if !is_quorum(s, quorum) { return turn_away(secret, 13) }
     (λ c κs. station (search))
     (λ c κs. search needs)
     (λ c. search needs)

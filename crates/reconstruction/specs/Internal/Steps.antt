@@ -10,9 +10,9 @@ use Rattle.field.specs.Field.{prime}
 use Rattle.members.specs.Members.{size, ownPoints, has, isSet, card}
 use Rattle.shares.specs.Layout.{shareWord}
 use Rattle.shares.specs.declared.Shape.{Shape}
-use Rattle.voting.specs.Votes.{usable, voteRows}
+use Rattle.voting.specs.Votes.{usable, voteRows, pairs}
 use Rattle.decoding.specs.Decoding.{find}
-use Rattle.reconstruction.specs.Reconstruction.{Opened, openedFrom, finish}
+use Rattle.reconstruction.specs.Reconstruction.{Opened, openedFrom, finish, Answered}
 
 -- votes from anywhere: a row for each of n members, and field words as share words of every member that has a vote
 pub record Voted (s : Shape) (able : ℕ) (rows words : List ℕ) : Type 0 where
@@ -37,8 +37,8 @@ byWords s words set =
 abbrev pub byVotes : Shape → ℕ → ℕ → List ℕ → List ℕ → Opened
 byVotes s quorum able rows words = finish (ownPoints (s .t)) (s .t) (s .d) quorum able rows (shareWord (s .t) (s .d) words)
 
--- and with the votes of the shares themselves
-abbrev pub byShares : Shape → ℕ → ℕ → List ℕ → Opened
+-- and with the votes of the shares themselves, and their counts
+abbrev pub byShares : Shape → ℕ → ℕ → List ℕ → Answered
 byShares s present quorum words =
     let able : ℕ = usable (s .t) (s .d) present words in
-    byVotes s quorum able (voteRows (s .t) (s .d) able words) words
+    record { opened = byVotes s quorum able (voteRows (s .t) (s .d) able words) words; pairs = pairs (s .t) (s .d) able words }

@@ -13,4 +13,4 @@ wordLines secret = concat (tab (length secret) (wordLine secret))
 
 -- what the answer of opening prints
 unfoldable pub opening : ℕ → ℕ → ℕ → ℕ → List ℕ → List ℕ
-opening t d present quorum words = printOpened d (reconstruct t d present quorum words)
+opening t d present quorum words = printOpened d (reconstruct t d present quorum words .opened)

@@ -10,9 +10,14 @@ rutzebam-open-spec =
     tie.close
     (tie.spec
     (λ c κs. search needs)
+    (λ c κs. search needs)
     (λ c. search needs)
     (λ c. search needs)
     (λ c. search needs)
-    (λ c. search opens)
+    (λ c.
+    let (answer, told) : tie.After-reconstruct × tie.After-store-pairs = (search, search) in
+    opens _ _ _ _ _ _ (answer .reconstruct .result) (answer .reconstruct .ensures) _ (told .store-pairs .ensures) _ _ (search))
     (λ c. search needs)
-    (λ c. search open-refuses))
+    (λ c.
+    let (answer, told) : tie.After-reconstruct × tie.After-store-pairs = (search, search) in
+    open-refuses _ _ _ _ _ _ (answer .reconstruct .result) (answer .reconstruct .ensures) _ (told .store-pairs .ensures) _ _ (search)))
