@@ -109,8 +109,8 @@ int main(void)
     if (!opens_without_spare(shares, secret)) return 1;
     if (!opens_with_one_unreadable(shares, secret)) return 1;
 
-    /* member 4 comes back with another first word: no tag of it fits any more, and the others strike
-       it, also where the shares come as text */
+    /* member 4 comes back with another first word: under these keys no tag of it fits any more, and
+       the others strike it, also where the shares come as text */
     shares[3 * WIDTH] = (uint16_t)((shares[3 * WIDTH] + 1u) % 65521u);
     if (!opens(ALL, 0, shares, secret, 23, 5, 0)) return 1;
     if (!hands_in(shares, words)) return 1;

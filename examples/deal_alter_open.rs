@@ -273,8 +273,8 @@ fn main() -> Result<(), String> {
     must_open_without_spare(&shares, &secret)?;
     must_open_with_one_unreadable(&shares, &secret)?;
 
-    // Member 4 comes back with another first word: no tag of it fits any more, and the others strike
-    // it, also where the shares come as text.
+    // Member 4 comes back with another first word: under these keys no tag of it fits any more, and
+    // the others strike it, also where the shares come as text.
     shares[3 * WIDTH] = ((shares[3 * WIDTH] as u32 + 1) % 65521) as u16;
     must_open(ALL, 0, &shares, &secret, 23, [20, 5, 0])?;
     must_open(ALL, 0, &must_hand_in(&shares)?, &secret, 23, [20, 5, 0])

@@ -26,7 +26,7 @@ ones n [] = 0
 ones n (row ∷ rows) = card n row + ones n rows
 
 -- the counts are those of the votes, where `able` is the set of usable members: they add up to n·n, with u usable members n·n − u·u are unread,
--- and the accepted are the ones of all vote rows
+-- and as many are accepted as all vote rows together have ones
 pub record TrueCounts (t d able : ℕ) (words : List ℕ) (p : Pairs) : Type 0 where
   pub of-the-votes : p ≡ pairs t d able words
   pub add-up : p .accepted + p .mismatched + p .unread ≡ size t * size t

@@ -1,5 +1,5 @@
 // The calls for programs in C and Rust, declared in include/rutzebam.h. Each has the contract of the call it makes: the number
-// that is returned is that of the rules, 0 when it is done, and masks and numbers are stored in lent places.
+// that is returned is that of the rules, 0 when it is done, and masks, numbers and counts are stored in lent places.
 ghost use mathlib.Core.Path.{_≡_};
 ghost use mathlib.Core.List.{[], _∷_};
 ghost use lib.ListN.{length};
