@@ -1,6 +1,6 @@
-/* Deals a secret to five members, sees that it opens, also from three of them and with one share that
-   cannot be read, alters one member's share, and opens what they hand in, through its text: the
-   shares are written down, read back and opened. */
+/* Deals a secret to five members for a day, sees that it opens, also from three of them and with one
+   share that cannot be read, and that it does not for the next day, alters one member's share, and
+   opens what they hand in, through its text: the shares are written down, read back and opened. */
 #include "rutzebam.h"
 
 #include <stdio.h>
@@ -13,6 +13,7 @@ enum {
     WIDTH = RUTZEBAM_SHARE_WORDS(T, D),
     SHARES = RUTZEBAM_SHARES_WORDS(T, D),
     RANDOM = RUTZEBAM_RANDOM_WORDS(T, D),
+    DAY = 321,
     ALL = (1 << N) - 1,
     THREE = 7 /* members 1 to 3 */
 };
@@ -37,7 +38,7 @@ static int opens(uint32_t present, uint16_t quorum, const uint16_t *shares, cons
     uint16_t opened[D], pairs[3];
     uint32_t survivors = 0, agreeing = 0;
     uint16_t number =
-        rutzebam_open(T, present, quorum, shares, SHARES, opened, D, &survivors, &agreeing, pairs);
+        rutzebam_open(T, DAY, present, quorum, shares, SHARES, opened, D, &survivors, &agreeing, pairs);
     printf("opening: %u, survivors %u, agreeing %u, secret %u %u %u\n", number,
            (unsigned)survivors, (unsigned)agreeing, opened[0], opened[1], opened[2]);
     printf("votes: accepted %u, mismatched %u, unread %u\n", pairs[RUTZEBAM_ACCEPTED],
@@ -56,7 +57,7 @@ static int opens_without_spare(const uint16_t *shares, const uint16_t *secret)
     uint16_t opened[D], pairs[3];
     uint32_t survivors = 0, agreeing = 0;
     uint16_t number =
-        rutzebam_open(T, THREE, 0, shares, SHARES, opened, D, &survivors, &agreeing, pairs);
+        rutzebam_open(T, DAY, THREE, 0, shares, SHARES, opened, D, &survivors, &agreeing, pairs);
     printf("opening three with quorum 0: %u\n", number);
     return number == RUTZEBAM_QUORUM_NOT_MET && pairs[RUTZEBAM_ACCEPTED] == 9
            && opens(THREE, T + 1, shares, secret, THREE, 0, 16);
@@ -73,21 +74,37 @@ static int opens_with_one_unreadable(uint16_t *shares, const uint16_t *secret)
     return done;
 }
 
+/* Opens the shares of all members for the next day: 1 if that refuses with 15, since no tag is that of
+   another day, and gives nothing away. */
+static int refuses_for_another_day(const uint16_t *shares)
+{
+    uint16_t opened[D], pairs[3];
+    uint32_t survivors = 1, agreeing = 1;
+    uint16_t number =
+        rutzebam_open(T, DAY + 1, ALL, 0, shares, SHARES, opened, D, &survivors, &agreeing, pairs);
+    printf("opening for another day: %u\n", number);
+    for (size_t k = 0; k < D; k++)
+        if (opened[k] != 65535) return 0;
+    return number == RUTZEBAM_NO_SURVIVORS && survivors == 0 && agreeing == 0
+           && pairs[RUTZEBAM_ACCEPTED] == 0 && pairs[RUTZEBAM_MISMATCHED] == N * N
+           && pairs[RUTZEBAM_UNREAD] == 0;
+}
+
 /* Writes the shares of all members as text, and reads them back into words: 1 if that gives what was
    written. */
 static int hands_in(const uint16_t *shares, uint16_t *words)
 {
     static uint8_t text[RUTZEBAM_WRITE_BYTES];
     size_t count = 0, t = 0, d = 0;
-    uint16_t quorum = 0;
+    uint16_t quorum = 0, day = 0;
     uint32_t present = 0;
-    uint16_t number = rutzebam_write(T, D, 0, ALL, shares, SHARES, text, sizeof text, &count);
+    uint16_t number = rutzebam_write(T, D, 0, DAY, ALL, shares, SHARES, text, sizeof text, &count);
     printf("writing: %u, %u bytes\n", number, (unsigned)count);
     if (number != RUTZEBAM_OK) return 0;
 
-    number = rutzebam_read(text, count, words, RUTZEBAM_READ_WORDS, &t, &d, &quorum, &present);
-    printf("reading: %u, present %u\n", number, (unsigned)present);
-    return number == RUTZEBAM_OK && t == T && d == D && quorum == 0 && present == ALL
+    number = rutzebam_read(text, count, words, RUTZEBAM_READ_WORDS, &t, &d, &quorum, &day, &present);
+    printf("reading: %u, day %u, present %u\n", number, day, (unsigned)present);
+    return number == RUTZEBAM_OK && t == T && d == D && quorum == 0 && day == DAY && present == ALL
            && memcmp(words, shares, SHARES * sizeof *shares) == 0;
 }
 
@@ -99,7 +116,7 @@ int main(void)
     static uint16_t words[RUTZEBAM_READ_WORDS];
 
     draw(random, RANDOM);
-    uint16_t number = rutzebam_deal(T, secret, D, random, RANDOM, shares, SHARES);
+    uint16_t number = rutzebam_deal(T, DAY, secret, D, random, RANDOM, shares, SHARES);
     printf("dealing: %u\n", number);
     if (number != RUTZEBAM_OK) return 1;
 
@@ -108,6 +125,7 @@ int main(void)
 
     if (!opens_without_spare(shares, secret)) return 1;
     if (!opens_with_one_unreadable(shares, secret)) return 1;
+    if (!refuses_for_another_day(shares)) return 1;
 
     /* member 4 comes back with another first word: under these keys no tag of it fits any more, and
        the others strike it, also where the shares come as text */

@@ -1,10 +1,11 @@
-//! Deals a secret to five members, sees that it opens, also from three of them and with one share
-//! that cannot be read, alters one member's share, and opens what they hand in, through its text: the
-//! shares are written down, read back and opened.
+//! Deals a secret to five members for a day, sees that it opens, also from three of them and with one
+//! share that cannot be read, and that it does not for the next day, alters one member's share, and
+//! opens what they hand in, through its text: the shares are written down, read back and opened.
 
 unsafe extern "C" {
     fn rutzebam_deal(
         t: usize,
+        day: u16,
         secret: *const u16,
         secret_len: usize,
         random: *const u16,
@@ -14,6 +15,7 @@ unsafe extern "C" {
     ) -> u16;
     fn rutzebam_open(
         t: usize,
+        day: u16,
         present: u32,
         quorum: u16,
         shares: *const u16,
@@ -32,12 +34,14 @@ unsafe extern "C" {
         t: *mut usize,
         d: *mut usize,
         quorum: *mut u16,
+        day: *mut u16,
         present: *mut u32,
     ) -> u16;
     fn rutzebam_write(
         t: usize,
         d: usize,
         quorum: u16,
+        day: u16,
         present: u32,
         shares: *const u16,
         shares_len: usize,
@@ -51,19 +55,21 @@ const T: usize = 2;
 const D: usize = 3;
 const N: usize = 2 * T + 1;
 const WIDTH: usize = D + 3 * N;
+const DAY: u16 = 321;
 const ALL: u32 = (1 << N) - 1;
 /// Members 1 to 3.
 const THREE: u32 = 7;
 /// How many words reading fills, and how many bytes are always enough for writing.
 const READ_WORDS: usize = 4867;
-const WRITE_BYTES: usize = 29362;
+const WRITE_BYTES: usize = 29368;
 
-/// Deals the secret into the shares. An error is the number of the check that failed.
-fn deal(t: usize, secret: &[u16], random: &[u16], shares: &mut [u16]) -> Result<(), u16> {
+/// Deals the secret for the day into the shares. An error is the number of the check that failed.
+fn deal(t: usize, day: u16, secret: &[u16], random: &[u16], shares: &mut [u16]) -> Result<(), u16> {
     // A slice's pointer is never null, and a `&mut` overlaps nothing else.
     let number = unsafe {
         rutzebam_deal(
             t,
+            day,
             secret.as_ptr(),
             secret.len(),
             random.as_ptr(),
@@ -83,11 +89,12 @@ struct Opened {
     pairs: [u16; 3],
 }
 
-/// Opens d words from the shares. An error is the number of the check that failed, the survivors and
+/// Opens d words from the shares, dealt for the day. An error is the number of the check that failed, the survivors and
 /// the pairs.
 fn open(
     t: usize,
     d: usize,
+    day: u16,
     present: u32,
     quorum: u16,
     shares: &[u16],
@@ -98,6 +105,7 @@ fn open(
     let number = unsafe {
         rutzebam_open(
             t,
+            day,
             present,
             quorum,
             shares.as_ptr(),
@@ -126,6 +134,7 @@ struct HandIn {
     t: usize,
     d: usize,
     quorum: u16,
+    day: u16,
     present: u32,
     shares: Vec<u16>,
 }
@@ -140,6 +149,7 @@ fn write(given: &HandIn) -> Result<Vec<u8>, u16> {
             given.t,
             given.d,
             given.quorum,
+            given.day,
             given.present,
             given.shares.as_ptr(),
             given.shares.len(),
@@ -155,7 +165,7 @@ fn write(given: &HandIn) -> Result<Vec<u8>, u16> {
 /// Reads the text. An error is the number of the check that failed.
 fn read(text: &[u8]) -> Result<HandIn, u16> {
     let mut shares = vec![0; READ_WORDS];
-    let (mut t, mut d, mut quorum, mut present) = (0, 0, 0, 0);
+    let (mut t, mut d, mut quorum, mut day, mut present) = (0, 0, 0, 0, 0);
     // As above.
     let number = unsafe {
         rutzebam_read(
@@ -166,6 +176,7 @@ fn read(text: &[u8]) -> Result<HandIn, u16> {
             &mut t,
             &mut d,
             &mut quorum,
+            &mut day,
             &mut present,
         )
     };
@@ -176,6 +187,7 @@ fn read(text: &[u8]) -> Result<HandIn, u16> {
             t,
             d,
             quorum,
+            day,
             present,
             shares,
         }),
@@ -207,8 +219,8 @@ fn must_open(
     members: u32,
     pairs: [u16; 3],
 ) -> Result<(), String> {
-    let opened =
-        open(T, D, present, quorum, shares).map_err(|refused| format!("opening: {refused:?}"))?;
+    let opened = open(T, D, DAY, present, quorum, shares)
+        .map_err(|refused| format!("opening: {refused:?}"))?;
     let (survivors, agreeing) = (opened.survivors, opened.agreeing);
     println!(
         "opening: survivors {survivors}, agreeing {agreeing}, pairs {:?}, secret {:?}",
@@ -224,7 +236,7 @@ fn must_open(
 /// Opens the shares of members 1 to 3: an error unless quorum 0 refuses, since it asks for one share
 /// more than T + 1, and quorum T + 1 gives the secret.
 fn must_open_without_spare(shares: &[u16], secret: &[u16]) -> Result<(), String> {
-    match open(T, D, THREE, 0, shares) {
+    match open(T, D, DAY, THREE, 0, shares) {
         Err((14, 0, [9, 0, 16])) => println!("opening three with quorum 0: 14"),
         _ => return Err("quorum 0 did not ask for a spare, or other pairs".to_string()),
     }
@@ -239,6 +251,16 @@ fn must_open_with_one_unreadable(shares: &[u16], secret: &[u16]) -> Result<(), S
     must_open(ALL, 0, &shares, secret, ALL - 16, [16, 0, 9])
 }
 
+/// Opens the shares of all members for the next day: an error unless that refuses with 15, since no
+/// tag is that of another day.
+fn must_refuse_for_another_day(shares: &[u16]) -> Result<(), String> {
+    match open(T, D, DAY + 1, ALL, 0, shares) {
+        Err((15, 0, [0, 25, 0])) => println!("opening for another day: 15"),
+        _ => return Err("another day opened, or other pairs".to_string()),
+    }
+    Ok(())
+}
+
 /// Writes the shares of all members as text, and reads them back: an error unless that gives what
 /// was written.
 fn must_hand_in(shares: &[u16]) -> Result<Vec<u16>, String> {
@@ -246,13 +268,14 @@ fn must_hand_in(shares: &[u16]) -> Result<Vec<u16>, String> {
         t: T,
         d: D,
         quorum: 0,
+        day: DAY,
         present: ALL,
         shares: shares.to_vec(),
     };
     let text = write(&given).map_err(|number| format!("writing: {number}"))?;
     println!("writing: {} bytes", text.len());
     let found = read(&text).map_err(|number| format!("reading: {number}"))?;
-    println!("reading: present {}", found.present);
+    println!("reading: day {}, present {}", found.day, found.present);
     match found == given {
         true => Ok(found.shares),
         false => Err("read something else than was written".to_string()),
@@ -264,7 +287,7 @@ fn main() -> Result<(), String> {
     let secret = [250, 1873, 65520];
     let random = draw(T * D + 2 * N * N);
     let mut shares = vec![0; N * WIDTH];
-    deal(T, &secret, &random, &mut shares).map_err(|number| format!("dealing: {number}"))?;
+    deal(T, DAY, &secret, &random, &mut shares).map_err(|number| format!("dealing: {number}"))?;
     println!("dealing: 0");
 
     // The readings may be deleted only once the shares are seen to open to them.
@@ -272,6 +295,7 @@ fn main() -> Result<(), String> {
 
     must_open_without_spare(&shares, &secret)?;
     must_open_with_one_unreadable(&shares, &secret)?;
+    must_refuse_for_another_day(&shares)?;
 
     // Member 4 comes back with another first word: under these keys no tag of it fits any more, and
     // the others strike it, also where the shares come as text.

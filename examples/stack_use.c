@@ -38,11 +38,11 @@ static uint16_t answer;
 /* What the calls are handed, and where they write. */
 static size_t t, secret_len, random_len, shares_len, rows_len, values_len, coefficients_len, words_len, text_len, tagged_len;
 static uint32_t present, rows[N], survivors, agreeing;
-static uint16_t quorum, pairs[3], secret[D + 1], random_words[RANDOM], shares[SHARES], dealt[SHARES];
+static uint16_t day, quorum, pairs[3], secret[D + 1], random_words[RANDOM], shares[SHARES], dealt[SHARES];
 static uint16_t values[N], coefficients[T + 1], words[RUTZEBAM_READ_WORDS];
 static uint8_t text[RUTZEBAM_TEXT_BYTES + 1];
 static size_t read_t, read_d;
-static uint16_t read_quorum;
+static uint16_t read_quorum, read_day;
 static uint32_t read_present;
 static size_t count;
 
@@ -50,12 +50,12 @@ static size_t count;
 
 static void run_deal(void)
 {
-    RUN(rutzebam_deal(t, secret, secret_len, random_words, random_len, shares, shares_len));
+    RUN(rutzebam_deal(t, day, secret, secret_len, random_words, random_len, shares, shares_len));
 }
 
 static void run_open(void)
 {
-    RUN(rutzebam_open(t, present, quorum, shares, shares_len, secret, secret_len, &survivors, &agreeing, pairs));
+    RUN(rutzebam_open(t, day, present, quorum, shares, shares_len, secret, secret_len, &survivors, &agreeing, pairs));
 }
 
 static void run_prune(void)
@@ -75,12 +75,12 @@ static void run_tag(void)
 
 static void run_read(void)
 {
-    RUN(rutzebam_read(text, text_len, words, words_len, &read_t, &read_d, &read_quorum, &read_present));
+    RUN(rutzebam_read(text, text_len, words, words_len, &read_t, &read_d, &read_quorum, &read_day, &read_present));
 }
 
 static void run_write(void)
 {
-    RUN(rutzebam_write(t, secret_len, quorum, present, shares, shares_len, text, text_len, &count));
+    RUN(rutzebam_write(t, secret_len, quorum, day, present, shares, shares_len, text, text_len, &count));
 }
 
 struct call {
@@ -176,6 +176,9 @@ static void open_words(size_t d)
     secret_len = 0;
     measure(&open_, RUTZEBAM_BAD_SECRET_LENGTH);
     secret_len = d;
+    day = 0;
+    measure(&open_, RUTZEBAM_BAD_DAY);
+    day = 65520;
 }
 
 static void decode_word(size_t d)
@@ -221,6 +224,7 @@ static void read_text(size_t d)
     put((unsigned)t);
     put((unsigned)d);
     put(65535);
+    put(65520);
     text[text_len++] = '\n';
     for (size_t i = n; i > 0; i--) {
         text[text_len++] = 'P';
@@ -266,6 +270,7 @@ int main(void)
 {
     static struct call *const calls[] = {&deal, &open_, &prune, &decode, &tag, &read_, &write_};
     static const size_t lengths[] = {1, D};
+    day = 65520;
     for (size_t threshold = 1; threshold <= T; threshold++)
         for (size_t k = 0; k < 2; k++) {
             deal_words(threshold, lengths[k]);

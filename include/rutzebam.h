@@ -11,6 +11,8 @@
 
    t is 1 to 15, n is 2t + 1, and members are numbered 1 to n. A set of members is a mask: member i
    has the value 2 to the power i - 1. A field word is 0 to 65520. A secret has d words, d is 1 to 64.
+   A day is a number that dealing and opening have to have in common, 1 to 65520. How days are counted
+   is up to the station: a number that comes again does not tell the two days apart.
 
    0 from rutzebam_open does not say that this is the secret that was dealt. It is, where survivors
    with share words as dealt are at least t + 1 more than survivors with altered ones. Otherwise, from
@@ -38,10 +40,10 @@
 extern "C" {
 #endif
 
-#define RUTZEBAM_VERSION_MAJOR 3
+#define RUTZEBAM_VERSION_MAJOR 4
 #define RUTZEBAM_VERSION_MINOR 0
 #define RUTZEBAM_VERSION_PATCH 0
-#define RUTZEBAM_VERSION "3.0.0"
+#define RUTZEBAM_VERSION "4.0.0"
 
 /* How many words a share has: d share words, n tags and n keys of two words. */
 #define RUTZEBAM_SHARE_WORDS(t, d) ((d) + 3 * (2 * (t) + 1))
@@ -54,7 +56,7 @@ extern "C" {
 /* The longest text that rutzebam_read takes, in bytes. */
 #define RUTZEBAM_TEXT_BYTES 40000
 /* The longest text that rutzebam_write writes, in bytes: a buffer of that many is always long enough. */
-#define RUTZEBAM_WRITE_BYTES 29362
+#define RUTZEBAM_WRITE_BYTES 29368
 
 /* Where the three counts of rutzebam_open stand in `pairs`. */
 #define RUTZEBAM_ACCEPTED 0
@@ -85,45 +87,49 @@ extern "C" {
 #define RUTZEBAM_BAD_LINE_MEMBER 24         /* a P line's member is not 1 to n, or was met before */
 #define RUTZEBAM_BAD_BUFFER_LENGTH 25       /* not RUTZEBAM_READ_WORDS words to read into */
 #define RUTZEBAM_TEXT_BUFFER_TOO_SHORT 31   /* fewer bytes to write into than the text has */
+#define RUTZEBAM_BAD_DAY 32                 /* the day is not 1 to 65520 */
 
 /* How many bytes of stack a call takes at most, with its return address and the arguments on the
    stack, without what memcpy and memset take themselves. In brackets the sum of the frames along the
    deepest chain of calls, in the code that `rt staticlib` writes for x86-64; the figures are those
    sums rounded up to a multiple of 256. examples/stack_use.c looks that no call takes more. */
-#define RUTZEBAM_DEAL_STACK_BYTES 768    /* (568) */
-#define RUTZEBAM_OPEN_STACK_BYTES 1792   /* (1720) */
+#define RUTZEBAM_DEAL_STACK_BYTES 768    /* (576) */
+#define RUTZEBAM_OPEN_STACK_BYTES 2048   /* (1872) */
 #define RUTZEBAM_PRUNE_STACK_BYTES 256   /* (224) */
 #define RUTZEBAM_DECODE_STACK_BYTES 1280 /* (1144) */
 #define RUTZEBAM_TAG_STACK_BYTES 256     /* (40) */
-#define RUTZEBAM_READ_STACK_BYTES 768    /* (536) */
-#define RUTZEBAM_WRITE_STACK_BYTES 256   /* (128) */
+#define RUTZEBAM_READ_STACK_BYTES 768    /* (544) */
+#define RUTZEBAM_WRITE_STACK_BYTES 256   /* (152) */
 /* The most of them. */
-#define RUTZEBAM_STACK_BYTES 1792
+#define RUTZEBAM_STACK_BYTES 2048
 
-/* Deals the secret to n members, with random words that the caller draws afresh and keeps to itself.
-   1: t. 2: the secret's length. 3: how many random words. 4: how many words for shares.
-   5: a secret word above 65520. 6: a random word above 65520. On a refusal shares is unchanged. */
-uint16_t rutzebam_deal(size_t t,
+/* Deals the secret to n members for a day, with random words that the caller draws afresh and keeps
+   to itself. 1: t. 2: the secret's length. 32: the day. 3: how many random words. 4: how many words
+   for shares. 5: a secret word above 65520. 6: a random word above 65520. On a refusal shares is
+   unchanged. */
+uint16_t rutzebam_deal(size_t t, uint16_t day,
                        const uint16_t *secret, size_t secret_len,
                        const uint16_t *random, size_t random_len,
                        uint16_t *shares, size_t shares_len);
 
-/* Opens the shares of the present members into the secret, whose length is d. At least `quorum` of
-   the present members must have shares of field words alone; 0 stands for t + 2. So with no share to
-   spare, t + 1 of them, the quorum t + 1 has to be handed over. `survivors` gets the members that the
-   votes leave, `agreeing` those of them whose words lie on the polynomials found.
+/* Opens the shares of the present members, dealt for this day, into the secret, whose length is d. At
+   least `quorum` of the present members must have shares of field words alone; 0 stands for t + 2. So
+   with no share to spare, t + 1 of them, the quorum t + 1 has to be handed over. `survivors` gets the
+   members that the votes leave, `agreeing` those of them whose words lie on the polynomials found.
    `pairs` gets how everybody's votes on everybody came out, each one's on itself too: how many were
-   accepted; how many were mismatched, because the tag is not that of the share words under the
-   voter's key; how many were unread, because not both members are present with shares of field words
-   alone. So a missing share, or one with a word above 65520, makes unread pairs, and an altered one
-   mismatched pairs where tags no longer fit. 0 mismatched does not say that nothing was altered. The
-   counts are 0 after 1, 2, 11, 12 and 13; else they are the true ones, after 14, 15 and 16 too, and
-   add up to n * n.
-   1: t. 2: the secret's length. 11: how many words of shares. 12: a member beyond n is present.
-   13: the quorum is neither 0 nor t + 1 to n. 14: the quorum is not met. 15: no survivors.
+   accepted; how many were mismatched, because the tag is not that of the day and the share words under
+   the voter's key; how many were unread, because not both members are present with shares of field
+   words alone. So a missing share, or one with a word above 65520, makes unread pairs, and one that was
+   altered, or dealt for another day, mismatched pairs where tags no longer fit. 0 mismatched does not
+   say that nothing was altered. The counts are 0 after 1, 2, 32, 11, 12 and 13; else they are the true
+   ones, after 14, 15 and 16 too, and add up to n * n.
+   Shares that were all dealt for one other day are refused with 15, unless keys among them have 0 as
+   their first word, which one of 65521 random words is: docs/RULES.md, 'Another day'.
+   1: t. 2: the secret's length. 32: the day. 11: how many words of shares. 12: a member beyond n is
+   present. 13: the quorum is neither 0 nor t + 1 to n. 14: the quorum is not met. 15: no survivors.
    16: too few survivors agree. On a refusal every word of the secret is 65535, at whatever length it
    has, and both masks are 0, but for 16, which gives the survivors. */
-uint16_t rutzebam_open(size_t t, uint32_t present, uint16_t quorum,
+uint16_t rutzebam_open(size_t t, uint16_t day, uint32_t present, uint16_t quorum,
                        const uint16_t *shares, size_t shares_len,
                        uint16_t *secret, size_t secret_len,
                        uint32_t *survivors, uint32_t *agreeing, uint16_t pairs[3]);
@@ -146,20 +152,21 @@ uint16_t rutzebam_decode(size_t t, const uint16_t *values, size_t values_len, ui
 uint16_t rutzebam_tag(uint16_t alpha, uint16_t beta, const uint16_t *words, size_t words_len);
 
 /* Reads hand-in text. `words` gets the shares in member order, then zeros; what rutzebam_open takes
-   is its first RUTZEBAM_SHARES_WORDS(*t, *d) words, with *quorum and *present.
+   is its first RUTZEBAM_SHARES_WORDS(*t, *d) words, with *day, *present and *quorum. The day is the one
+   that the text names: what it has to be, the caller has to know.
    25: not 4867 words. 21: more than 40000 bytes. 22: the first line. 23: a line's shape.
    24: a line's member. On a refusal every word, at whatever length there is, and every number is 0. */
 uint16_t rutzebam_read(const uint8_t *text, size_t text_len,
                        uint16_t *words, size_t words_len,
-                       size_t *t, size_t *d, uint16_t *quorum, uint32_t *present);
+                       size_t *t, size_t *d, uint16_t *quorum, uint16_t *day, uint32_t *present);
 
-/* Writes hand-in text: t, d and the quorum, then the shares of the present members by rising number.
-   `count` gets its length in bytes, at most RUTZEBAM_WRITE_BYTES; what text has past it stays. Every
-   quorum and every word is written, above 65520 too. rutzebam_read of the first *count bytes gives t,
-   d, quorum and present back, and the shares with zeros for absent members.
-   1: t. 2: d. 11: how many words of shares. 12: a member beyond n is present. 31: text_len is less
-   than the text's length. On a refusal text is unchanged, and *count is 0. */
-uint16_t rutzebam_write(size_t t, size_t d, uint16_t quorum, uint32_t present,
+/* Writes hand-in text: t, d, the quorum and the day, then the shares of the present members by rising
+   number. `count` gets its length in bytes, at most RUTZEBAM_WRITE_BYTES; what text has past it stays.
+   Every quorum and every word is written, above 65520 too. rutzebam_read of the first *count bytes
+   gives t, d, quorum, day and present back, and the shares with zeros for absent members.
+   1: t. 2: d. 32: the day. 11: how many words of shares. 12: a member beyond n is present. 31: text_len
+   is less than the text's length. On a refusal text is unchanged, and *count is 0. */
+uint16_t rutzebam_write(size_t t, size_t d, uint16_t quorum, uint16_t day, uint32_t present,
                         const uint16_t *shares, size_t shares_len,
                         uint8_t *text, size_t text_len, size_t *count);
 

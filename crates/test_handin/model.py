@@ -5,10 +5,10 @@
 import re
 import sys
 
-PLAIN = "D\t1\t1\t0\n"
-ONE = "P\t1\t253\t254\t507\t760\t1\t1\t1\t2\t1\t3\n"
-TWO = "P\t2\t256\t258\t514\t770\t2\t1\t2\t2\t2\t3\n"
-THREE = "P\t3\t300\t262\t521\t780\t3\t1\t3\t2\t3\t3\n"
+PLAIN = "D\t1\t1\t0\t1\n"
+ONE = "P\t1\t253\t255\t1015\t2281\t1\t1\t1\t2\t1\t3\n"
+TWO = "P\t2\t256\t259\t1028\t2309\t2\t1\t2\t2\t2\t3\n"
+THREE = "P\t3\t300\t263\t1041\t2337\t3\t1\t3\t2\t3\t3\n"
 ZEROS = "\t0\t0\t0\t0\t0\t0\t0\t0\t0\t0"
 
 TEXTS = [
@@ -16,20 +16,28 @@ TEXTS = [
     PLAIN + ONE + TWO + THREE,
     PLAIN,
     PLAIN + THREE + ONE,
-    "D\t1\t2\t65535\nP\t2\t65535\t65521\t0\t0\t0\t0\t0\t0\t0\t0\t9\n",
+    "D\t1\t2\t65535\t65520\nP\t2\t65535\t65521\t0\t0\t0\t0\t0\t0\t0\t0\t9\n",
     # no D line
     "",
-    "D\t1\t1\t0",
+    "D\t1\t1\t0\t1",
     "\n",
-    "D\t0\t1\t0\n",
-    "D\t16\t1\t0\n",
-    "D\t1\t65\t0\n",
-    "D\t1\t1\t65536\n",
-    "D\t01\t1\t0\n",
-    "D\t1\t1\t0\r\n",
-    "d\t1\t1\t0\n",
-    "D\t1\t1\t0\t0\n" + ONE,
-    "D\t1\t1\t:\n",
+    "D\t0\t1\t0\t1\n",
+    "D\t16\t1\t0\t1\n",
+    "D\t1\t65\t0\t1\n",
+    "D\t1\t1\t65536\t1\n",
+    "D\t01\t1\t0\t1\n",
+    "D\t1\t1\t0\t1\r\n",
+    "d\t1\t1\t0\t1\n",
+    "D\t1\t1\t0\t1\t0\n" + ONE,
+    "D\t1\t1\t:\t1\n",
+    # no good day
+    "D\t1\t1\t0\n",
+    "D\t1\t1\t0\t\n",
+    "D\t1\t1\t0\t0\n",
+    "D\t1\t1\t0\t65521\n",
+    "D\t1\t1\t0\t65535\n",
+    "D\t1\t1\t0\t65537\n",
+    "D\t1\t1\t0\t01\n",
     # no P line
     PLAIN + ONE + "P\t0\t0\t0\t0\t0\t0\t0\t0\t0\t0\n",
     PLAIN + ONE + "P\t1" + ZEROS + "\t\n",
@@ -50,7 +58,7 @@ TEXTS = [
 
 def largest():
     """31 shares of five-digit words, in a mixed order."""
-    lines = ["D\t15\t64\t65535"]
+    lines = ["D\t15\t64\t65535\t65520"]
     for k in range(31):
         member = k * 7 % 31 + 1
         words = [str(10000 + (member * 157 + j) * 7919 % 55536) for j in range(157)]
@@ -72,18 +80,18 @@ def line_of(letter, count, line):
 
 
 def read(text, size):
-    """Number, t, d, quorum, mask and buffer."""
+    """Number, t, d, quorum, day, mask and buffer."""
     def refused(number):
-        return number, 0, 0, 0, 0, [0] * size
+        return number, 0, 0, 0, 0, 0, [0] * size
     if size != 4867:
         return refused(25)
     if len(text) > 40000:
         return refused(21)
     *lines, rest = text.split("\n")
-    first = line_of("D", 3, lines[0]) if lines else None
-    if first is None or not 1 <= first[0] <= 15 or not 1 <= first[1] <= 64:
+    first = line_of("D", 4, lines[0]) if lines else None
+    if first is None or not 1 <= first[0] <= 15 or not 1 <= first[1] <= 64 or not 1 <= first[3] <= 65520:
         return refused(22)
-    t, d, quorum = first
+    t, d, quorum, day = first
     n = 2 * t + 1
     width = d + 3 * n
     shares = {}
@@ -97,7 +105,7 @@ def read(text, size):
     if rest:
         return refused(23)
     words = sum((shares.get(i, [0] * width) for i in range(1, n + 1)), [])
-    return 0, t, d, quorum, sum(2 ** (i - 1) for i in shares), words + [0] * (4867 - len(words))
+    return 0, t, d, quorum, day, sum(2 ** (i - 1) for i in shares), words + [0] * (4867 - len(words))
 
 
 def shown(text, size=4867):
@@ -108,7 +116,7 @@ def shown(text, size=4867):
     return "\t".join(map(str, numbers + [check]))
 
 
-def write(t, d, quorum, present, words, room):
+def write(t, d, quorum, day, present, words, room):
     """Number, count and buffer; the buffer is full of dots at first."""
     dots = "." * room
     n = 2 * t + 1
@@ -117,11 +125,13 @@ def write(t, d, quorum, present, words, room):
         return 1, 0, dots
     if not 1 <= d <= 64:
         return 2, 0, dots
+    if not 1 <= day <= 65520:
+        return 32, 0, dots
     if len(words) != n * width:
         return 11, 0, dots
     if present >> n:
         return 12, 0, dots
-    lines = [["D", t, d, quorum]]
+    lines = [["D", t, d, quorum, day]]
     lines += [["P", i + 1] + words[i * width:(i + 1) * width] for i in range(n) if present >> i & 1]
     text = "".join("\t".join(map(str, line)) + "\n" for line in lines)
     if len(text) > room:
@@ -134,29 +144,33 @@ def written(*given):
     return f"{number}\t{count}\n{buffer}"
 
 
-SAMPLE = read(PLAIN + ONE + TWO + THREE, 4867)[5][:30]
+SAMPLE = read(PLAIN + ONE + TWO + THREE, 4867)[6][:30]
 WRITTEN = [
-    (1, 1, 0, 7, SAMPLE, 120),
-    (1, 1, 0, 5, SAMPLE, 120),
-    (1, 1, 2, 0, SAMPLE, 120),
-    (1, 1, 65535, 2, [65535] * 30, 120),
-    (1, 1, 0, 7, SAMPLE, 104),
-    (1, 1, 0, 7, SAMPLE, 103),
-    (1, 1, 0, 7, SAMPLE, 0),
-    (0, 1, 0, 0, SAMPLE, 20),
-    (16, 65, 0, 0, SAMPLE, 20),
-    (1, 0, 0, 0, SAMPLE, 20),
-    (1, 65, 0, 0, [], 20),
-    (1, 1, 0, 8, [0] * 31, 20),
-    (1, 1, 0, 8, SAMPLE, 20),
-    (1, 1, 0, 7, SAMPLE, 20),
+    (1, 1, 0, 1, 7, SAMPLE, 120),
+    (1, 1, 0, 1, 5, SAMPLE, 120),
+    (1, 1, 2, 1, 0, SAMPLE, 120),
+    (1, 1, 65535, 1, 2, [65535] * 30, 120),
+    (1, 1, 0, 65520, 0, SAMPLE, 20),
+    (1, 1, 0, 1, 7, SAMPLE, 112),
+    (1, 1, 0, 1, 7, SAMPLE, 111),
+    (1, 1, 0, 1, 7, SAMPLE, 0),
+    (0, 1, 0, 1, 0, SAMPLE, 20),
+    (16, 65, 0, 1, 0, SAMPLE, 20),
+    (1, 0, 0, 1, 0, SAMPLE, 20),
+    (1, 65, 0, 0, 0, [], 20),
+    (1, 1, 0, 0, 8, [0] * 31, 20),
+    (1, 1, 0, 65521, 0, SAMPLE, 20),
+    (1, 1, 0, 65535, 0, SAMPLE, 20),
+    (1, 1, 0, 1, 8, [0] * 31, 20),
+    (1, 1, 0, 1, 8, SAMPLE, 20),
+    (1, 1, 0, 1, 7, SAMPLE, 20),
 ]
 
 if sys.argv[1] == "stdin":
     sys.stdout.write(largest())
 elif sys.argv[1] == "stdout":
     print(shown(largest()))
-    print(written(15, 64, 65535, 2 ** 31 - 1, read(largest(), 4867)[5], 29362))
+    print(written(15, 64, 65535, 65520, 2 ** 31 - 1, read(largest(), 4867)[6], 29368))
     print(shown(PLAIN, 4866))
     print(shown("\0" * 40001))
     for text in TEXTS:

@@ -7,18 +7,20 @@ import re
 import sys
 
 P = 65521
-PLAIN = "D\t1\t1\t0\n"
-BY_TWO = "D\t1\t1\t2\n"
-ONE = "P\t1\t253\t254\t507\t760\t1\t1\t1\t2\t1\t3\n"
-TWO = "P\t2\t256\t258\t514\t770\t2\t1\t2\t2\t2\t3\n"
-THREE = "P\t3\t300\t262\t521\t780\t3\t1\t3\t2\t3\t3\n"
-DEALT = "P\t3\t259\t262\t521\t780\t3\t1\t3\t2\t3\t3\n"
+PLAIN = "D\t1\t1\t0\t1\n"
+BY_TWO = "D\t1\t1\t2\t1\n"
+ONE = "P\t1\t253\t255\t1015\t2281\t1\t1\t1\t2\t1\t3\n"
+TWO = "P\t2\t256\t259\t1028\t2309\t2\t1\t2\t2\t2\t3\n"
+THREE = "P\t3\t300\t263\t1041\t2337\t3\t1\t3\t2\t3\t3\n"
+ANOTHER = "D\t1\t1\t0\t2\n"
+DEALT = "P\t3\t259\t263\t1041\t2337\t3\t1\t3\t2\t3\t3\n"
+SECOND = "P\t3\t259\t264\t1043\t2340\t3\t1\t3\t2\t3\t3\n"
 ZEROS = "\t0" * 9
 
 
 def zeros(changed):
     """t = 2, d = 2, all shares zero, but for the words changed: member and place from 0."""
-    lines = ["D\t2\t2\t0"]
+    lines = ["D\t2\t2\t0\t1"]
     for i in range(1, 6):
         lines.append("\t".join(["P", str(i)] + [str(int((i, k) in changed)) for k in range(17)]))
     return "\n".join(lines) + "\n"
@@ -29,20 +31,27 @@ TEXTS = [
     PLAIN + ONE + TWO + THREE,
     BY_TWO + TWO + ONE,
     zeros([(4, 0)]),
-    "D\t1\t2\t2\nP\t1\t5\t65520" + ZEROS + "\nP\t3\t5\t65520" + ZEROS + "\n",
+    "D\t1\t2\t2\t1\nP\t1\t5\t65520" + ZEROS + "\nP\t3\t5\t65520" + ZEROS + "\n",
     # refused: 13, twice; 14, nobody, C11, C12 with quorum 0, a word above 65520; 15; 16, C10 and C14
-    "D\t1\t1\t1\n",
-    "D\t1\t1\t4\n" + ONE + TWO + DEALT,
+    "D\t1\t1\t1\t1\n",
+    "D\t1\t1\t4\t1\n" + ONE + TWO + DEALT,
     PLAIN,
     PLAIN + ONE,
     PLAIN + TWO + ONE,
-    BY_TWO + ONE + "P\t2\t256\t258\t514\t770\t2\t1\t2\t2\t2\t65521\n",
-    BY_TWO + ONE + "P\t2\t256\t0\t514\t770\t2\t1\t2\t2\t2\t3\n",
+    BY_TWO + ONE + "P\t2\t256\t259\t1028\t2309\t2\t1\t2\t2\t2\t65521\n",
+    BY_TWO + ONE + "P\t2\t256\t0\t1028\t2309\t2\t1\t2\t2\t2\t3\n",
     PLAIN + "P\t1\t253" + ZEROS + "\nP\t2\t256" + ZEROS + "\nP\t3\t300" + ZEROS + "\n",
     zeros([(4, 0), (5, 1)]),
+    # another day: 15; member 3's share of day 2 beside two of day 1, opened for day 1 and for day 2
+    ANOTHER + ONE + TWO + DEALT,
+    PLAIN + ONE + TWO + SECOND,
+    ANOTHER + ONE + TWO + SECOND,
     # refused: 22, 23, 24
     "",
-    "D\t1\t1\t0",
+    "D\t1\t1\t0\t1",
+    "D\t1\t1\t0\n",
+    "D\t1\t1\t0\t0\n",
+    "D\t1\t1\t0\t65521\n",
     PLAIN + ONE + "\n",
     PLAIN + ONE + TWO + ONE,
 ]
@@ -54,15 +63,15 @@ def tag(words, alpha, beta):
 
 def largest():
     """t = 15 and d = 64: member 20 is absent, member 7 has altered a word, and member 31 has a word that is none."""
-    t, n, d = 15, 31, 64
+    t, n, d, day = 15, 31, 64, 65520
     curves = [[(1 + k * 977 + j * j * 6151) * 31337 % P for j in range(t + 1)] for k in range(d)]
     words = {i: [sum(c * i ** j for j, c in enumerate(f)) % P for f in curves] for i in range(1, n + 1)}
     keys = {(i, j): ((i * 1009 + j) % P, (j * 2003 + i * i) % P) for i in words for j in words}
-    lines = ["\t".join(map(str, ["D", t, d, 17]))]
+    lines = ["\t".join(map(str, ["D", t, d, 17, day]))]
     for m in range(n):
         i = m * 7 % n + 1
         share = list(words[i])
-        share += [tag(words[i], *keys[j, i]) for j in range(1, n + 1)]
+        share += [tag([day] + words[i], *keys[j, i]) for j in range(1, n + 1)]
         share += [x for j in range(1, n + 1) for x in keys[i, j]]
         if i == 7:
             share[63] = (share[63] + 1) % P
@@ -87,14 +96,14 @@ def line_of(letter, count, line):
 
 
 def read(text):
-    """A refusal's number, or t, d, the quorum and the shares."""
+    """A refusal's number, or t, d, the quorum, the day and the shares."""
     if len(text) > 40000:
         return 21
     *lines, rest = text.split("\n")
-    first = line_of("D", 3, lines[0]) if lines else None
-    if first is None or not 1 <= first[0] <= 15 or not 1 <= first[1] <= 64:
+    first = line_of("D", 4, lines[0]) if lines else None
+    if first is None or not 1 <= first[0] <= 15 or not 1 <= first[1] <= 64 or not 1 <= first[3] <= 65520:
         return 22
-    t, d, quorum = first
+    t, d, quorum, day = first
     shares = {}
     for line in lines[1:]:
         numbers = line_of("P", 1 + d + 3 * (2 * t + 1), line)
@@ -103,7 +112,7 @@ def read(text):
         if not 1 <= numbers[0] <= 2 * t + 1 or numbers[0] in shares:
             return 24
         shares[numbers[0]] = numbers[1:]
-    return 23 if rest else (t, d, quorum, shares)
+    return 23 if rest else (t, d, quorum, day, shares)
 
 
 def through(points, x):
@@ -121,7 +130,7 @@ def mask(members):
     return sum(2 ** (i - 1) for i in members)
 
 
-def opened(t, d, quorum, shares):
+def opened(t, d, quorum, day, shares):
     """A refusal's number and the survivors, or the survivors, the agreeing survivors and the secret."""
     n = 2 * t + 1
     if quorum != 0 and not t + 1 <= quorum <= n:
@@ -132,7 +141,7 @@ def opened(t, d, quorum, shares):
 
     def accepts(j, i):
         alpha, beta = shares[j][d + n + 2 * i - 2:d + n + 2 * i]
-        return shares[i][d + j - 1] == tag(shares[i][:d], alpha, beta)
+        return shares[i][d + j - 1] == tag([day] + shares[i][:d], alpha, beta)
     left = able
     while True:
         kept = [i for i in left if sum(accepts(j, i) for j in left) > t]

@@ -38,6 +38,7 @@ pub trait Call: fmt::Debug {
 #[derive(Clone, Debug)]
 pub struct Deal {
     pub t: usize,
+    pub day: u16,
     pub secret: Vec<u16>,
     pub random: Vec<u16>,
     pub shares: Vec<u16>,
@@ -55,7 +56,7 @@ impl Call for Deal {
 
     fn by_reference(&self) -> Dealt {
         let mut shares = self.shares.clone();
-        let number = deal(self.t, &self.secret, &self.random, &mut shares);
+        let number = deal(self.t, self.day, &self.secret, &self.random, &mut shares);
         Dealt { number, shares }
     }
 
@@ -71,6 +72,7 @@ impl Call for Deal {
 #[derive(Clone, Debug)]
 pub struct Open {
     pub t: usize,
+    pub day: u16,
     pub present: u32,
     pub quorum: u16,
     pub shares: Vec<u16>,
@@ -90,10 +92,19 @@ pub struct Opened {
 }
 
 impl Open {
+    /// How many usable members the quorum asks for.
+    pub fn asked(&self) -> usize {
+        match self.quorum {
+            0 => self.t + 2,
+            given => given as usize,
+        }
+    }
+
     fn by(&self, way: Way) -> Opened {
         let mut secret = self.secret.clone();
         let opening = open(
             self.t,
+            self.day,
             self.present,
             self.quorum,
             &self.shares,
@@ -272,6 +283,7 @@ pub struct Read {
     pub t: usize,
     pub d: usize,
     pub quorum: u16,
+    pub day: u16,
     pub present: u32,
 }
 
@@ -282,6 +294,7 @@ pub struct ReadAnswer {
     pub t: usize,
     pub d: usize,
     pub quorum: u16,
+    pub day: u16,
     pub present: u32,
 }
 
@@ -298,6 +311,7 @@ impl Call for Read {
             t: reading.t,
             d: reading.d,
             quorum: reading.quorum,
+            day: reading.day,
             present: reading.present,
         }
     }
@@ -316,6 +330,7 @@ pub struct Write {
     pub t: usize,
     pub d: usize,
     pub quorum: u16,
+    pub day: u16,
     pub present: u32,
     pub shares: Vec<u16>,
     pub text: Text,
@@ -339,6 +354,7 @@ impl Call for Write {
             self.t,
             self.d,
             self.quorum,
+            self.day,
             self.present,
             &self.shares,
             &mut text.0,

@@ -63,7 +63,8 @@ impl Ledger {
         answer
     }
 
-    /// Keeps a difference if the condition fails.
+    /// Keeps a difference if the condition fails. It is about the answer of both sides, since
+    /// another answer of the tested one is a difference already.
     pub fn demand<C: Call>(
         &mut self,
         holds: bool,

@@ -10,6 +10,7 @@ use crate::reference::sharing::Pairs;
 unsafe extern "C" {
     fn rutzebam_deal(
         t: usize,
+        day: u16,
         secret: *const u16,
         secret_len: usize,
         random: *const u16,
@@ -19,6 +20,7 @@ unsafe extern "C" {
     ) -> u16;
     fn rutzebam_open(
         t: usize,
+        day: u16,
         present: u32,
         quorum: u16,
         shares: *const u16,
@@ -47,12 +49,14 @@ unsafe extern "C" {
         t: *mut usize,
         d: *mut usize,
         quorum: *mut u16,
+        day: *mut u16,
         present: *mut u32,
     ) -> u16;
     fn rutzebam_write(
         t: usize,
         d: usize,
         quorum: u16,
+        day: u16,
         present: u32,
         shares: *const u16,
         shares_len: usize,
@@ -135,6 +139,7 @@ pub fn deal(call: &Deal) -> (Dealt, Damage) {
     let number = unsafe {
         rutzebam_deal(
             call.t,
+            call.day,
             secret.pointer(),
             secret.len(),
             random.pointer(),
@@ -160,6 +165,7 @@ pub fn open(call: &Open) -> (Opened, Damage) {
     let number = unsafe {
         rutzebam_open(
             call.t,
+            call.day,
             call.present,
             call.quorum,
             shares.pointer(),
@@ -239,6 +245,7 @@ pub fn read(call: &Read) -> (ReadAnswer, Damage) {
     let mut words = Lent::new(&call.words);
     let (mut t, mut d) = (Lent::one(call.t), Lent::one(call.d));
     let mut quorum = Lent::one(call.quorum);
+    let mut day = Lent::one(call.day);
     let mut present = Lent::one(call.present);
     let number = unsafe {
         rutzebam_read(
@@ -249,6 +256,7 @@ pub fn read(call: &Read) -> (ReadAnswer, Damage) {
             t.pointer(),
             d.pointer(),
             quorum.pointer(),
+            day.pointer(),
             present.pointer(),
         )
     };
@@ -258,6 +266,7 @@ pub fn read(call: &Read) -> (ReadAnswer, Damage) {
     t.look("beside t", &mut damage);
     d.look("beside d", &mut damage);
     quorum.look("beside the quorum", &mut damage);
+    day.look("beside the day", &mut damage);
     present.look("beside the present mask", &mut damage);
     let answer = ReadAnswer {
         number,
@@ -265,6 +274,7 @@ pub fn read(call: &Read) -> (ReadAnswer, Damage) {
         t: t.content()[0],
         d: d.content()[0],
         quorum: quorum.content()[0],
+        day: day.content()[0],
         present: present.content()[0],
     };
     (answer, damage)
@@ -279,6 +289,7 @@ pub fn write(call: &Write) -> (Written, Damage) {
             call.t,
             call.d,
             call.quorum,
+            call.day,
             call.present,
             shares.pointer(),
             shares.len(),
@@ -301,10 +312,11 @@ pub fn write(call: &Write) -> (Written, Damage) {
 
 /// The calls without guards and copies, for measuring.
 pub mod plain {
-    pub fn deal(t: usize, secret: &[u16], random: &[u16], shares: &mut [u16]) -> u16 {
+    pub fn deal(t: usize, day: u16, secret: &[u16], random: &[u16], shares: &mut [u16]) -> u16 {
         unsafe {
             super::rutzebam_deal(
                 t,
+                day,
                 secret.as_ptr(),
                 secret.len(),
                 random.as_ptr(),
@@ -318,6 +330,7 @@ pub mod plain {
     /// The refusal number, the survivors, the agreeing ones and the pairs of each kind.
     pub fn open(
         t: usize,
+        day: u16,
         present: u32,
         quorum: u16,
         shares: &[u16],
@@ -327,6 +340,7 @@ pub mod plain {
         let number = unsafe {
             super::rutzebam_open(
                 t,
+                day,
                 present,
                 quorum,
                 shares.as_ptr(),
@@ -350,7 +364,7 @@ pub mod plain {
 
     /// The refusal number and the present mask.
     pub fn read(text: &[u8], words: &mut [u16]) -> (u16, u32) {
-        let (mut t, mut d, mut quorum, mut present) = (0, 0, 0, 0);
+        let (mut t, mut d, mut quorum, mut day, mut present) = (0, 0, 0, 0, 0);
         let number = unsafe {
             super::rutzebam_read(
                 text.as_ptr(),
@@ -360,6 +374,7 @@ pub mod plain {
                 &mut t,
                 &mut d,
                 &mut quorum,
+                &mut day,
                 &mut present,
             )
         };
@@ -371,6 +386,7 @@ pub mod plain {
         t: usize,
         d: usize,
         quorum: u16,
+        day: u16,
         present: u32,
         shares: &[u16],
         text: &mut [u8],
@@ -381,6 +397,7 @@ pub mod plain {
                 t,
                 d,
                 quorum,
+                day,
                 present,
                 shares.as_ptr(),
                 shares.len(),

@@ -1,9 +1,11 @@
 //! The outcomes that a run must have reached.
 
 use crate::cases::orders::{DEAL, DECODE, OPEN, PRUNE, WRITE};
-use crate::cases::reading::{DAMAGES, ENDS, ORDERS};
+use crate::cases::reading::{DAMAGES, DAY_FAULTS, ENDS, ORDERS};
+use crate::cases::{END_DAYS, no_days};
 
 const CLASSES: &[&str] = &[
+    "deal: tags by the call for tags",
     "open: demand 2 checked",
     "open: demand 3 checked",
     "open: demand 3's last clause checked",
@@ -35,6 +37,24 @@ const CLASSES: &[&str] = &[
     "open: 14, nothing mismatched",
     "open: an unusable member present, nothing mismatched",
     "open: opened, members mismatched by themselves alone",
+    "open: another day, in part, 14",
+    "open: another day, in part, 15",
+    "open: another day, all alphas 0, 0",
+    "open: another day, all alphas 0, 14",
+    "open: another day, some alphas 0, 0",
+    "open: another day, some alphas 0, 14",
+    "open: another day, some alphas 0, 15",
+    "open: two days, one dealing, 0",
+    "open: two days, one dealing, 14",
+    "open: two days, one dealing, 15",
+    "open: two days, one dealing, one is struck",
+    "open: two days, one dealing, both survive",
+    "open: two days, two dealings, 0",
+    "open: two days, two dealings, 14",
+    "open: two days, two dealings, 15",
+    "open: two days, two dealings, 16",
+    "open: two days, two dealings, one is struck",
+    "open: two days, two dealings, both survive",
     "open: done, compared with the search too",
     "prune: nobody survives",
     "prune: some survive",
@@ -97,10 +117,20 @@ const PROGRAM: &[&str] = &[
     "kinds known beforehand",
     "a few words changed",
     "noise",
+    "each day",
+    "another day, complete",
+    "another day, in part",
+    "another day, all alphas 0",
+    "another day, some alphas 0",
+    "two days, one dealing",
+    "two days, two dealings",
+    "a complete text of another day",
     "a hand-in, its text spoilt",
     "good text",
     "longest good text",
     "first line spoilt",
+    "day spoilt",
+    "each day in a text",
     "share line spoilt",
     "wrong member",
     "ends of a text",
@@ -134,10 +164,25 @@ pub fn required() -> Vec<String> {
         names.push(format!("read: first line, {name}"));
         names.push(format!("read: share line, {name}"));
     }
+    for name in DAY_FAULTS {
+        names.push(format!("read: first line, {name}"));
+    }
     names.extend(PROGRAM.iter().map(|name| format!("program: {name}")));
     let numbers = [0, 13, 14, 15, 16, 21, 22, 23, 24];
     names.extend(numbers.map(|number| format!("program: {number}")));
     names.extend(sizes());
+    names.extend(days());
+    names
+}
+
+/// Each end of the days, and each word that is no day, with its number.
+fn days() -> Vec<String> {
+    let mut names = Vec::new();
+    for (call, number) in [("deal", 32), ("open", 32), ("write", 32), ("read", 22)] {
+        names.extend(END_DAYS.map(|day| format!("{call}: 0, day {day}")));
+        let refused = no_days().into_iter();
+        names.extend(refused.map(|day| format!("{call}: {number}, day {day}")));
+    }
     names
 }
 
@@ -149,6 +194,7 @@ fn sizes() -> Vec<String> {
             "deal: t",
             "open: opened, t",
             "open: 16, t",
+            "open: another day, 15, t",
             "prune: t",
             "decode: decoded, t",
             "write: t",

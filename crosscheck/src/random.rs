@@ -94,6 +94,32 @@ impl Random {
         }
     }
 
+    /// A day; the ends of the range come up often.
+    pub fn day(&mut self) -> u16 {
+        match self.below(6) {
+            0 => 1,
+            1 => (P - 1) as u16,
+            _ => self.within(1, P as usize - 1) as u16,
+        }
+    }
+
+    /// A day other than `day`, often the next one; the last is followed by the first.
+    pub fn other_day(&mut self, day: u16) -> u16 {
+        match self.other(day) {
+            0 if day == 1 => 2,
+            0 => 1,
+            other => other,
+        }
+    }
+
+    /// A word that is no day.
+    pub fn no_day(&mut self) -> u16 {
+        match self.coin() {
+            true => 0,
+            false => self.above(),
+        }
+    }
+
     /// Any 32-bit mask.
     pub fn mask(&mut self) -> u32 {
         self.draw() as u32

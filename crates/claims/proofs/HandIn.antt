@@ -1,4 +1,4 @@
--- What is written is read back and has at most 29362 bytes, which are reached; the other instances by computing.
+-- What is written is read back and has at most 29368 bytes, which are reached; the other instances by computing.
 -- Assumes nothing.
 use Prim.Native.Nat.{ℕ, suc, _+_, _*_, _^_, _<_}
 use native.Mathlib.Omega.{arith}
@@ -11,51 +11,44 @@ use lib.Dec.{leb, eqb}
 use lib.ListN.{length, getD, take, drop, replicate, length-replicate, getD-replicate}
 use lib.Seq.{take-append-seam}
 use Rattle.lists.specs.Ascii.{ascii}
-use Rattle.lists.specs.Checks.{Check, _unless_, checked}
+use Rattle.lists.specs.Checks.{_unless_, checked}
 use Rattle.lists.specs.Tabulate.{tab, all, each, first, concat}
-use Rattle.lists.proofs.Checks.{all-pass, all-passed}
+use Rattle.lists.proofs.Checks.{all-pass, all-passed, within-high}
 use Rattle.lists.proofs.Every.{none, more}
 use Rattle.lists.proofs.Tabulate.{tab-ext, all-elim}
 use Rattle.members.specs.Members.{isThreshold, size, bit, has, setOf, isSet}
-use Rattle.shares.specs.Layout.{isLength, width, capacity, word, share}
+use Rattle.shares.specs.Layout.{isLength, isDay, width, capacity, word, share}
 use Rattle.shares.specs.Internal.Shape.{InRange}
 use Rattle.shares.specs.Sample.{sample}
 use Rattle.shares.proofs.Shapes.{in-range}
 use Rattle.text.specs.Lines.{digits, field, line, before, parts, decimal, leadsWithZero, isNumeral, numerals, isLetter, numbersOf, lineOf}
 use Rattle.handin.specs.Reader.{shareOf, isSome, wordsOr, takeShare, takeNumbers, takeLine, takeLines, unread, placed, readFrom, readNumbers, readLines, read}
-use Rattle.handin.specs.Writer.{HandInText, shareLine, shareLines, textOf, unwritten, written, write}
+use Rattle.handin.specs.Writer.{HandInText, firstLine, shareLine, shareLines, textOf, unwritten, written, checks, write}
 use Rattle.handin.proofs.ReadBack.{read-back}
 use Rattle.handin.proofs.TextLength.{text-short}
 use Rattle.claims.specs.HandIn.{ofPresent, ReadsBack, AtMost, AlwaysFits, HandInInstances}
 
-module _ (t d quorum present : ℕ) (words buffer : List ℕ) where
+module _ (t d quorum day present : ℕ) (words buffer : List ℕ) where
   abbrev text : List ℕ
-  text = textOf t d quorum present words
-
-  abbrev checks : List Check
-  checks =
-      1 unless isThreshold t
-      ∷ 2 unless isLength d
-      ∷ 11 unless eqb (length words) (size t * width t d)
-      ∷ 12 unless isSet (size t) present
-      ∷ 31 unless leb (length text) (length buffer)
-      ∷ []
+  text = textOf t d quorum day present words
 
   -- what is known where writing accepts
   record Accepted : Type 0 where
     range : InRange t d
+    dated : isDay day ≡ true
     inside : present < 2 ^ size t
-    so : write t d quorum present words buffer ≡ written text buffer
+    so : write t d quorum day present words buffer ≡ written text buffer
 
-  accepted : write t d quorum present words buffer .number ≡ 0 → Accepted
+  accepted : write t d quorum day present words buffer .number ≡ 0 → Accepted
   unfolding write unwritten each
   accepted z =
-      elim (all-pass (unwritten buffer) (λ a. a .number) (λ k. refl) checks refl (written text buffer) z) [
-        | more p1 (more p2 (more p3 (more p4 (more p5 none)))) ↦
+      elim (all-pass (unwritten buffer) (λ a. a .number) (λ k. refl) (checks t d day present words text buffer) refl (written text buffer) z) [
+        | more p1 (more p2 (more p32 (more p11 (more p12 (more p31 none))))) ↦
             record {
               range = in-range t d p1 p2;
-              inside = ltb-true present (2 ^ size t) p4;
-              so = all-passed (unwritten buffer) (λ a. a .number) (λ k. refl) checks refl (written text buffer) z;
+              dated = p32;
+              inside = ltb-true present (2 ^ size t) p12;
+              so = all-passed (unwritten buffer) (λ a. a .number) (λ k. refl) (checks t d day present words text buffer) refl (written text buffer) z;
             }
       ]
 
@@ -66,48 +59,53 @@ module _ (t d quorum present : ℕ) (words buffer : List ℕ) where
       ap₂ (λ (k : ℕ) (l : List ℕ). take k l) (sym (ap (λ (a : HandInText). a .count) e)) (sym (ap (λ (a : HandInText). a .buffer) e))
       ∙ take-append-seam text (drop (length text) buffer)
 
-  -- five checks of which the last passes where the first two do
-  not-31 : (a b c e f : Bool) → (a ≡ true → b ≡ true → f ≡ true)
-      → checked (unwritten buffer) (1 unless a ∷ 2 unless b ∷ 11 unless c ∷ 12 unless e ∷ 31 unless f ∷ []) (written text buffer) .number ≡ 31 → ⊥
+  -- six checks of which the last passes where the first three do
+  not-31 : (a b y c e f : Bool) → (a ≡ true → b ≡ true → y ≡ true → f ≡ true)
+      → checked (unwritten buffer) (1 unless a ∷ 2 unless b ∷ 32 unless y ∷ 11 unless c ∷ 12 unless e ∷ 31 unless f ∷ []) (written text buffer) .number ≡ 31 → ⊥
   unfolding unwritten written
-  not-31 false b c e f fits h = omega (arith, h)
-  not-31 true false c e f fits h = omega (arith, h)
-  not-31 true true false e f fits h = omega (arith, h)
-  not-31 true true true false f fits h = omega (arith, h)
-  not-31 true true true true false fits h = false≢true (fits refl refl)
-  not-31 true true true true true fits h = omega (arith, h)
+  not-31 false b y c e f fits h = omega (arith, h)
+  not-31 true false y c e f fits h = omega (arith, h)
+  not-31 true true false c e f fits h = omega (arith, h)
+  not-31 true true true false e f fits h = omega (arith, h)
+  not-31 true true true true false f fits h = omega (arith, h)
+  not-31 true true true true true false fits h = false≢true (fits refl refl refl)
+  not-31 true true true true true true fits h = omega (arith, h)
+
+  -- a day has 16 bits
+  day-16 : isDay day ≡ true → day < 65536
+  day-16 h = omega (arith, within-high 1 65520 day h)
 
 pub reads-back : ReadsBack
 unfolding ReadsBack ofPresent
-reads-back t d quorum present words before after count low small e =
-    let ok : Accepted t d quorum present words before = accepted t d quorum present words before (ap (λ (a : HandInText). a .number) e) in
-    ap (λ (l : List ℕ). read l capacity) (written-text t d quorum present words before count after (sym (ok .so) ∙ e))
-    ∙ read-back t d (ok .range) words small present quorum low (ok .inside)
+reads-back t d quorum day present words before after count low small e =
+    let ok : Accepted t d quorum day present words before = accepted t d quorum day present words before (ap (λ (a : HandInText). a .number) e) in
+    ap (λ (l : List ℕ). read l capacity) (written-text t d quorum day present words before count after (sym (ok .so) ∙ e))
+    ∙ read-back t d (ok .range) words small present quorum low day (ok .dated) (ok .inside)
 
 pub at-most : AtMost
 unfolding AtMost written
-at-most t d quorum present words before after count low small e =
-    let ok : Accepted t d quorum present words before = accepted t d quorum present words before (ap (λ (a : HandInText). a .number) e) in
-    omega (arith, ap (λ (a : HandInText). a .count) (sym (ok .so) ∙ e), text-short t d (ok .range) words small present quorum low)
+at-most t d quorum day present words before after count low small e =
+    let ok : Accepted t d quorum day present words before = accepted t d quorum day present words before (ap (λ (a : HandInText). a .number) e) in
+    omega (arith, ap (λ (a : HandInText). a .count) (sym (ok .so) ∙ e), text-short t d (ok .range) words small present quorum low day (day-16 t d quorum day present words before (ok .dated)))
 
 pub always-fits : AlwaysFits
 unfolding AlwaysFits write
-always-fits t d quorum present words buffer low small room =
-    not-31 t d quorum present words buffer (isThreshold t) (isLength d) (eqb (length words) (size t * width t d)) (isSet (size t) present)
-    (leb (length (textOf t d quorum present words)) (length buffer))
-    (λ p q.
-    le-leb (length (textOf t d quorum present words)) (length buffer)
-    (le-trans (text-short t d (in-range t d p q) words small present quorum low) room))
+always-fits t d quorum day present words buffer low small room =
+    not-31 t d quorum day present words buffer (isThreshold t) (isLength d) (isDay day) (eqb (length words) (size t * width t d)) (isSet (size t) present)
+    (leb (length (textOf t d quorum day present words)) (length buffer))
+    (λ p q y.
+    le-leb (length (textOf t d quorum day present words)) (length buffer)
+    (le-trans (text-short t d (in-range t d p q) words small present quorum low day (day-16 t d quorum day present words buffer y)) room))
 
--- ---- the longest text: t = 15, d = 64, all present, the quorum and every word 65535
+-- ---- the longest text: t = 15, d = 64, all present, the quorum and every word 65535, the day 65520
 
 abbrev longestLine : ℕ → List ℕ
 longestLine i = line (ascii "P") (suc i ∷ tab 157 (λ k. 65535))
 
 abbrev longestText : List ℕ
-longestText = line (ascii "D") (15 ∷ 64 ∷ 65535 ∷ []) ++ concat (tab 31 longestLine)
+longestText = firstLine 15 64 65535 65520 ++ concat (tab 31 longestLine)
 
-longest-length : length longestText ≡ 29362
+longest-length : length longestText ≡ 29368
 unfolding line concat field digits ascii tab
 longest-length = refl
 
@@ -124,17 +122,17 @@ module _ (words : List ℕ) (full : (k : ℕ) → k < 4867 → getD words k 0 �
   unfolding shareLine
   longest-line i h = rw (all-elim 31 (has 2147483647) all-present i h) (ap (λ (l : List ℕ). line (ascii "P") (suc i ∷ l)) (longest-share i h))
 
-  longest-text : textOf 15 64 65535 2147483647 words ≡ longestText
+  longest-text : textOf 15 64 65535 65520 2147483647 words ≡ longestText
   unfolding textOf shareLines size
   longest-text =
-      ap (λ (ls : List (List ℕ)). line (ascii "D") (15 ∷ 64 ∷ 65535 ∷ []) ++ concat ls)
+      ap (λ (ls : List (List ℕ)). firstLine 15 64 65535 65520 ++ concat ls)
       (tab-ext 31 (λ i. cond (has 2147483647 i) (shareLine 15 64 words i) []) longestLine longest-line)
 
   -- a buffer of one byte less is too short for it
-  too-short : (buffer : List ℕ) → length words ≡ 4867 → length buffer ≡ 29361 → write 15 64 65535 2147483647 words buffer .number ≡ 31
+  too-short : (buffer : List ℕ) → length words ≡ 4867 → length buffer ≡ 29367 → write 15 64 65535 65520 2147483647 words buffer .number ≡ 31
   unfolding write unwritten size width
   too-short buffer long room =
-      let whole : length (textOf 15 64 65535 2147483647 words) ≡ 29362 = ap length longest-text ∙ longest-length in
+      let whole : length (textOf 15 64 65535 65520 2147483647 words) ≡ 29368 = ap length longest-text ∙ longest-length in
       rw (long, whole, room)
 
 pub hand-in-instances : HandInInstances
@@ -152,6 +150,6 @@ hand-in-instances =
       quorum-65536-back = refl;
       one-less =
           let words : List ℕ = replicate 4867 65535 in
-          let buffer : List ℕ = replicate 29361 0 in
-          too-short words (λ k h. getD-replicate 4867 k 65535 0 h) buffer (length-replicate {A = ℕ} 4867 65535) (length-replicate {A = ℕ} 29361 0);
+          let buffer : List ℕ = replicate 29367 0 in
+          too-short words (λ k h. getD-replicate 4867 k 65535 0 h) buffer (length-replicate {A = ℕ} 4867 65535) (length-replicate {A = ℕ} 29367 0);
     }

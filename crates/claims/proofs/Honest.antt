@@ -4,7 +4,7 @@ use mathlib.Core.Path.{_≡_, refl, sym, ap, ap₂, _∙_, subst}
 use mathlib.Core.Logic.{inl, inr}
 use mathlib.Core.Bool.{true, _&&_, _||_}
 use mathlib.Core.List.{List}
-use Prim.Native.Nat.{ℕ, suc, _≤_, _<_}
+use Prim.Native.Nat.{ℕ, suc, _^_, _≤_, _<_}
 use native.Mathlib.Nat.{le-trans, le-of-eq}
 use native.Mathlib.Omega.{arith}
 use lib.Dec.{eqb}
@@ -16,46 +16,58 @@ use Rattle.lists.proofs.Every.{Every}
 use Rattle.field.specs.Field.{prime}
 use Rattle.mac.specs.Tag.{tag}
 use Rattle.members.specs.Members.{size, has, setOf, card}
-use Rattle.members.proofs.Masks.{has-setOf, setOf-lt, has-zero, card-mono, card-some}
-use Rattle.shares.specs.Layout.{shareWords, tagWord, keyα, keyβ}
+use Rattle.members.proofs.Masks.{subsets-equal, has-setOf, setOf-lt, has-zero, card-mono, card-some}
+use Rattle.shares.specs.Layout.{tagged, shareWords, tagWord, keyα, keyβ}
 use Rattle.shares.proofs.Same.{same-words, same-tag, same-α, same-β}
 use Rattle.pruning.specs.Pruning.{Closed, survivors}
 use Rattle.pruning.proofs.Largest.{survivors-largest}
 use Rattle.dealing.specs.Dealing.{dealtShares}
 use Rattle.dealing.proofs.Laws.{tag-holds, word-field}
 use Rattle.voting.specs.Votes.{usable, accepts, voteRows}
-use Rattle.voting.proofs.Meaning.{usable-intro, rightTag, accepts-intro}
+use Rattle.voting.proofs.Meaning.{usable-lt, usable-intro, usable-present, rightTag, accepts-intro}
 use Rattle.reconstruction.proofs.Meaning.{votes-are}
 use Rattle.claims.specs.Demands.{AsDealt}
 
-module _ (xs : List ℕ) (t : ℕ) (secret random : List ℕ) (field : Every (λ a. a < prime) random) (present : ℕ) (words : List ℕ) where
+-- the right tag of shares that are as dealt is that of the dealt ones, for whatever day
+pub right-same : (t d day present : ℕ) (dealt words : List ℕ) (i j : ℕ) → i < size t → AsDealt t d present dealt words i → AsDealt t d present dealt words j
+    → rightTag t d day words i j ≡ rightTag t d day dealt i j
+right-same t d day present dealt words i j hi si sj =
+    ap₂ (λ (a b : ℕ). tag a b (tagged day (shareWords t d words i))) (same-α t d words dealt j (sj .same) i hi) (same-β t d words dealt j (sj .same) i hi)
+    ∙ ap (λ (ws : List ℕ). tag (keyα t d dealt j i) (keyβ t d dealt j i) (tagged day ws)) (same-words t d words dealt i (si .same))
+
+module _ (xs : List ℕ) (t day : ℕ) (secret random : List ℕ) (field : Every (λ a. a < prime) random) (present : ℕ) (words : List ℕ) where
   -- member i's share is handed in as dealt
   abbrev Same : ℕ → Type 0
-  Same i = AsDealt t (length secret) present (dealtShares xs t secret random) words i
+  Same i = AsDealt t (length secret) present (dealtShares xs t day secret random) words i
 
   abbrev able : ℕ
   able = usable t (length secret) present words
 
   abbrev rows : List ℕ
-  rows = voteRows t (length secret) able words
+  rows = voteRows t (length secret) day able words
 
   pub honest-usable : (i : ℕ) → i < size t → Same i → has able i ≡ true
   honest-usable i h s =
       usable-intro t (length secret) present words i h (s .is-present)
-      (λ k l. subst (λ (n : ℕ). n < prime) (sym (s .same k l)) (word-field xs t secret random field i k))
+      (λ k l. subst (λ (n : ℕ). n < prime) (sym (s .same k l)) (word-field xs t day secret random field i k))
 
-  honest-tag : (i j : ℕ) → i < size t → j < size t → Same i → Same j → tagWord t (length secret) words i j ≡ rightTag t (length secret) words i j
+  honest-tag : (i j : ℕ) → i < size t → j < size t → Same i → Same j → tagWord t (length secret) words i j ≡ rightTag t (length secret) day words i j
   honest-tag i j hi hj si sj =
       let d : ℕ = length secret in
-      let dealt : List ℕ = dealtShares xs t secret random in
+      let dealt : List ℕ = dealtShares xs t day secret random in
       same-tag t d words dealt i (si .same) j hj
-      ∙ tag-holds xs t secret random i j hi hj
-      ∙ ap₂ (λ (a b : ℕ). tag a b (shareWords t d dealt i)) (sym (same-α t d words dealt j (sj .same) i hi)) (sym (same-β t d words dealt j (sj .same) i hi))
-      ∙ ap (tag (keyα t d words j i) (keyβ t d words j i)) (sym (same-words t d words dealt i (si .same)))
+      ∙ tag-holds xs t day secret random i j hi hj
+      ∙ sym (right-same t d day present dealt words i j hi si sj)
 
-  pub honest-accepts : (i j : ℕ) → i < size t → j < size t → Same i → Same j → accepts t (length secret) able words j i ≡ true
+  pub honest-accepts : (i j : ℕ) → i < size t → j < size t → Same i → Same j → accepts t (length secret) day able words j i ≡ true
   honest-accepts i j hi hj si sj =
-      accepts-intro t (length secret) able words j i (honest-usable i hi si) (honest-usable j hj sj) (honest-tag i j hi hj si sj)
+      accepts-intro t (length secret) day able words j i (honest-usable i hi si) (honest-usable j hj sj) (honest-tag i j hi hj si sj)
+
+  -- where all that are present are as dealt, all of them are usable
+  pub all-usable : present < 2 ^ size t → ((i : ℕ) → i < size t → has present i ≡ true → Same i) → able ≡ present
+  all-usable inside as-dealt =
+      subsets-equal (size t) able present (usable-lt t (length secret) present words) inside (λ i h u. usable-present t (length secret) present words i h u)
+      (λ i h e. honest-usable i h (as-dealt i h e))
 
   module _ (honest : ℕ) (many : suc t ≤ card (size t) honest) (as-dealt : (i : ℕ) → i < size t → has honest i ≡ true → Same i) where
     -- the honest members and one more
@@ -76,10 +88,10 @@ module _ (xs : List ℕ) (t : ℕ) (secret random : List ℕ) (field : Every (λ
           accepted = λ m hm g.
               le-trans many
               (le-trans
-              (count-mono (size t) (has honest) (λ j. accepts t (length secret) able words j m && has (group i) j)
+              (count-mono (size t) (has honest) (λ j. accepts t (length secret) day able words j m && has (group i) j)
               (λ j hj e. and-intro (honest-accepts m j hm hj (group-same i m s hm g) (as-dealt j hj e))
               (has-setOf (size t) (λ k. has honest k || eqb k i) j hj ∙ or-left (has honest j) (eqb j i) e)))
-              (le-of-eq (sym (votes-are t (length secret) able words m hm (group i)))));
+              (le-of-eq (sym (votes-are t (length secret) day able words m hm (group i)))));
         }
 
     pub survives : (i : ℕ) → i < size t → Same i → has (survivors t rows) i ≡ true

@@ -23,11 +23,11 @@ use Rattle.claims.specs.Demands.{Dealing, AsDealt, altered}
 use Rattle.claims.specs.Instances.{Instances}
 
 -- member i is present with all its dealt words
-abbrev sameShare : ℕ → ℕ → ℕ → List ℕ → List ℕ → ℕ → Bool
+abbrev pub sameShare : ℕ → ℕ → ℕ → List ℕ → List ℕ → ℕ → Bool
 sameShare t d present dealt words i = has present i && all (width t d) (λ k. eqb (word t d words i k) (word t d dealt i k))
 
 -- one test of all honest members
-as-tested : (t d present honest : ℕ) (dealt words : List ℕ) → all (size t) (λ i. not (has honest i) || sameShare t d present dealt words i) ≡ true
+pub as-tested : (t d present honest : ℕ) (dealt words : List ℕ) → all (size t) (λ i. not (has honest i) || sameShare t d present dealt words i) ≡ true
     → (i : ℕ) → i < size t → has honest i ≡ true → AsDealt t d present dealt words i
 as-tested t d present honest dealt words h i l e =
     let p : sameShare t d present dealt words i ≡ true = rw e at (all-elim (size t) (λ j. not (has honest j) || sameShare t d present dealt words j) h i l) in
@@ -40,8 +40,8 @@ as-tested t d present honest dealt words h i l e =
     }
 
 -- a dealing into a buffer that holds the dealt words already
-dealt-over : (t : ℕ) (secret random dealt : List ℕ) → deal t secret random dealt ≡ record { number = 0; shares = dealt } → Dealing t secret random dealt
-dealt-over t secret random dealt e = record { buffer = dealt; accepted = e }
+pub dealt-over : (t day : ℕ) (secret random dealt : List ℕ) → deal t day secret random dealt ≡ record { number = 0; shares = dealt } → Dealing t day secret random dealt
+dealt-over t day secret random dealt e = record { buffer = dealt; accepted = e }
 
 pub instances : Instances
 unfolding tab all count keep each first concat choose difference product power inverse eval value linear slopes interpolate size ownPoints bit has

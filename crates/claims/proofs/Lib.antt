@@ -1,4 +1,5 @@
 -- What is proved of the definitions.
+pub mod Days
 pub mod Demand2
 pub mod Demand3
 pub mod Examples

@@ -29,16 +29,16 @@ unfolding tab concat keep ones
 ones-passed p n zero f row h = refl
 ones-passed p n (suc m) f row h = passed-more p n m f ∙ ap₂ _+_ (sym (h 0)) (ones-passed p n m (λ i. f (suc i)) (λ i. row (suc i)) (λ i. h (suc i)))
 
-true-counts : (t d able : ℕ) (words : List ℕ) → TrueCounts t d able words (pairs t d able words)
+true-counts : (t d day able : ℕ) (words : List ℕ) → TrueCounts t d day able words (pairs t d day able words)
 unfolding pairs kinds countOf voteTable voteRows accepts
-true-counts t d able words =
+true-counts t d day able words =
     record {
       of-the-votes = refl;
-      add-up = pairs-total t d able words;
-      unread-are = pairs-unread t d able words;
+      add-up = pairs-total t d day able words;
+      unread-are = pairs-unread t d day able words;
       accepted-are =
-          ones-passed (isOf accepted) (size t) (size t) (λ i j. vote t d able words j i) (λ i. setOf (size t) (λ j. accepts t d able words j i))
-          (λ i. card-setOf (size t) (λ j. accepts t d able words j i));
+          ones-passed (isOf accepted) (size t) (size t) (λ i j. vote t d day able words j i) (λ i. setOf (size t) (λ j. accepts t d day able words j i))
+          (λ i. card-setOf (size t) (λ j. accepts t d day able words j i));
     }
 
 -- the answer's number is one of those after the votes, and none of those before
@@ -59,15 +59,15 @@ finish-late xs t d quorum able rows y =
     (more (record { is = refl; is-not = refl }) (more (record { is = refl; is-not = refl }) every-none))
     (openedFrom xs t d y s (find xs t d y s)) (from-late xs t d y s (find xs t d y s))
 
-module _ (t d present quorum : ℕ) (words : List ℕ) where
+module _ (t d day present quorum : ℕ) (words : List ℕ) where
   abbrev able : ℕ
   able = usable t d present words
 
   abbrev opened : Opened
-  opened = finish (ownPoints t) t d quorum able (voteRows t d able words) (shareWord t d words)
+  opened = finish (ownPoints t) t d quorum able (voteRows t d day able words) (shareWord t d words)
 
   -- a refusal before the votes
-  early : (k : ℕ) → oneOf beforeVotes k ≡ true → oneOf afterVotes k ≡ false → CountsOf t d present words (turnedAway d k)
+  early : (k : ℕ) → oneOf beforeVotes k ≡ true → oneOf afterVotes k ≡ false → CountsOf t d day present words (turnedAway d k)
   unfolding turnedAway unopened
   early k is is-not =
       record {
@@ -76,22 +76,23 @@ module _ (t d present quorum : ℕ) (words : List ℕ) where
         true-after = λ e. absurd (clash e is-not);
       }
 
-  after : CountsOf t d present words (record { opened = opened; pairs = pairs t d able words })
+  after : CountsOf t d day present words (record { opened = opened; pairs = pairs t d day able words })
   after =
-      let late : Late opened = finish-late (ownPoints t) t d quorum able (voteRows t d able words) (shareWord t d words) in
+      let late : Late opened = finish-late (ownPoints t) t d quorum able (voteRows t d day able words) (shareWord t d words) in
       record {
         known = or-yes (oneOf beforeVotes (opened .number)) (oneOf afterVotes (opened .number)) (late .is);
         none-before = λ e. absurd (clash e (late .is-not));
-        true-after = λ e. true-counts t d able words;
+        true-after = λ e. true-counts t d day able words;
       }
 
 pub pair-counts : PairCounts
 unfolding PairCounts reconstruct oneOf
-pair-counts t d present quorum words =
-    checked-holds (turnedAway d) (CountsOf t d present words) (checks t d present quorum words)
-    (more (refused 1 refl refl) (more (refused 2 refl refl) (more (refused 11 refl refl) (more (refused 12 refl refl) (more (refused 13 refl refl) every-none)))))
-    (record { opened = opened t d present quorum words; pairs = pairs t d (able t d present quorum words) words })
-    (after t d present quorum words)
+pair-counts t d day present quorum words =
+    checked-holds (turnedAway d) (CountsOf t d day present words) (checks t d day present quorum words)
+    (more (refused 1 refl refl) (more (refused 2 refl refl) (more (refused 32 refl refl)
+    (more (refused 11 refl refl) (more (refused 12 refl refl) (more (refused 13 refl refl) every-none))))))
+    (record { opened = opened t d day present quorum words; pairs = pairs t d day (able t d day present quorum words) words })
+    (after t d day present quorum words)
   where
-    refused : (k : ℕ) → oneOf beforeVotes k ≡ true → oneOf afterVotes k ≡ false → CountsOf t d present words (turnedAway d k)
-    refused = early t d present quorum words
+    refused : (k : ℕ) → oneOf beforeVotes k ≡ true → oneOf afterVotes k ≡ false → CountsOf t d day present words (turnedAway d k)
+    refused = early t d day present quorum words

@@ -1,4 +1,5 @@
 -- All that is claimed of the definitions, in one record. The function `claims::hold` is checked for it, so that no claim stands without its proof.
+use Rattle.claims.specs.Days.{CompleteSet, AnotherDay, DayInstances}
 use Rattle.claims.specs.Demands.{Demand2, Demand3}
 use Rattle.claims.specs.Examples.{Examples, Corners}
 use Rattle.claims.specs.General.{Opening, DealtAnywhere}
@@ -15,6 +16,10 @@ pub record Claims : Type 0 where
   -- demand 3 for any distinct points
   pub opening : Opening
   pub dealt-anywhere : DealtAnywhere
+  -- shares of another day are refused with 15, where no α is 0; and why that is needed
+  pub complete-set : CompleteSet
+  pub another-day : AnotherDay
+  pub day-instances : DayInstances
   -- how many pairs fell to each kind of vote
   pub pair-counts : PairCounts
   -- what is written as hand-in text is read back; how long it is; why the premises are needed

@@ -1,7 +1,8 @@
 -- Demands 2 and 3 as statements over the definitions of dealing and opening. Proved in proofs/Demand2 and proofs/Demand3.
 --
--- Nothing is assumed of the secret and the random words but that dealing accepts them, and nothing of what is handed in but its
--- length, its mask and its quorum: its words may be any numbers, also those of absent members.
+-- Both are about one day's dealing and an opening for that day (document 02, W-205). Nothing is assumed of the secret, the random words
+-- and the day but that dealing accepts them, and nothing of what is handed in but its length, its mask and its quorum: its words may be any
+-- numbers, also those of absent members.
 use Prim.Native.Nat.{ℕ, suc, _-_, _*_, _/_, _^_, _≤_, _<_}
 use mathlib.Core.Path.{_≡_}
 use mathlib.Core.Logic.{_⊎_}
@@ -18,10 +19,10 @@ use Rattle.dealing.specs.Dealing.{deal}
 use Rattle.voting.specs.Votes.{usable, voteRows, Pairs}
 use Rattle.reconstruction.specs.Reconstruction.{Opened, isQuorum, required, atZero, reconstruct}
 
--- dealing accepts the secret and the random words, and writes the dealt words
-pub record Dealing (t : ℕ) (secret random dealt : List ℕ) : Type 0 where
+-- dealing accepts the secret and the random words for the day, and writes the dealt words
+pub record Dealing (t day : ℕ) (secret random dealt : List ℕ) : Type 0 where
   pub buffer : List ℕ
-  pub accepted : deal t secret random buffer ≡ record { number = 0; shares = dealt }
+  pub accepted : deal t day secret random buffer ≡ record { number = 0; shares = dealt }
 
 -- what is handed in to opening for d words: n shares, a mask of the n members, and a quorum that is met
 pub record HandedIn (t d present quorum : ℕ) (words : List ℕ) : Type 0 where
@@ -51,10 +52,10 @@ agreed xs t d words set f = agreeing xs t d (shareWord t d words) set f
 abbrev pub noneMismatched : ℕ → ℕ → Pairs
 noneMismatched n u = record { accepted = u * u; mismatched = 0; unread = n * n - u * u }
 
--- what demand 3 says of the answer of opening, where the members have the points xs
-pub record Sound (xs : List ℕ) (t d present : ℕ) (secret dealt words : List ℕ) (answer : Opened) : Type 0 where
+-- what demand 3 says of the answer of opening for a day, where the members have the points xs
+pub record Sound (xs : List ℕ) (t d day present : ℕ) (secret dealt words : List ℕ) (answer : Opened) : Type 0 where
   -- the survivors are the largest set for the votes of what is handed in, and hold every member as dealt
-  pub largest : Largest t (voteRows t d (usable t d present words) words) (answer .survivors)
+  pub largest : Largest t (voteRows t d day (usable t d present words) words) (answer .survivors)
   pub holds : (i : ℕ) → i < size t → AsDealt t d present dealt words i → has (answer .survivors) i ≡ true
   -- opening opens, or refuses with 16, and with 16 exactly where no polynomials of degree at most t have enough survivors agreeing
   pub opens-or-16 : (answer .number ≡ 0) ⊎ (answer .number ≡ 16)
@@ -81,11 +82,11 @@ pub record Sound (xs : List ℕ) (t d present : ℕ) (secret dealt words : List 
 -- the answer is the secret, and no vote is mismatched.
 unfoldable pub Demand2 : Type 0
 Demand2 =
-    (t present quorum : ℕ) (secret random dealt words : List ℕ)
-    → Dealing t secret random dealt
+    (t day present quorum : ℕ) (secret random dealt words : List ℕ)
+    → Dealing t day secret random dealt
     → HandedIn t (length secret) present quorum words
     → ((i : ℕ) → i < size t → has present i ≡ true → AsDealt t (length secret) present dealt words i)
-    → reconstruct t (length secret) present quorum words
+    → reconstruct t (length secret) day present quorum words
     ≡ record {
       opened = record { number = 0; survivors = present; agreeing = present; secret = secret };
       pairs = noneMismatched (size t) (card (size t) present);
@@ -94,9 +95,9 @@ Demand2 =
 -- Demand 3: at least t + 1 shares are handed in as dealt and the quorum is met, whatever was done to the others.
 unfoldable pub Demand3 : Type 0
 Demand3 =
-    (t present quorum : ℕ) (secret random dealt words : List ℕ)
-    → Dealing t secret random dealt
+    (t day present quorum : ℕ) (secret random dealt words : List ℕ)
+    → Dealing t day secret random dealt
     → HandedIn t (length secret) present quorum words
     → (honest : ℕ) → suc t ≤ card (size t) honest
     → ((i : ℕ) → i < size t → has honest i ≡ true → AsDealt t (length secret) present dealt words i)
-    → Sound (ownPoints t) t (length secret) present secret dealt words (reconstruct t (length secret) present quorum words .opened)
+    → Sound (ownPoints t) t (length secret) day present secret dealt words (reconstruct t (length secret) day present quorum words .opened)

@@ -36,14 +36,15 @@ Opening =
     (xs : List ℕ) (t d : ℕ) (y : ℕ → ℕ → ℕ) (s : ℕ) → Points (size t) xs
     → Answers xs t d y s (openedFrom xs t d y s (find xs t d y s))
 
--- what demand 3 says of its answer, for shares dealt at any points and the second half of opening at the same points
+-- what demand 3 says of its answer, for shares dealt at any points for any day, and the second half of opening at the same points for that day
 unfoldable pub DealtAnywhere : Type 0
 DealtAnywhere =
-    (xs : List ℕ) (t present quorum : ℕ) (secret random words : List ℕ) → Points (size t) xs
+    (xs : List ℕ) (t day present quorum : ℕ) (secret random words : List ℕ) → Points (size t) xs
     → each isFieldWord secret ≡ true → each isFieldWord random ≡ true
     → required t quorum ≤ card (size t) (usable t (length secret) present words)
     → (honest : ℕ) → suc t ≤ card (size t) honest
-    → ((i : ℕ) → i < size t → has honest i ≡ true → AsDealt t (length secret) present (dealtShares xs t secret random) words i)
+    → ((i : ℕ) → i < size t → has honest i ≡ true → AsDealt t (length secret) present (dealtShares xs t day secret random) words i)
     → let d : ℕ = length secret in
     let able : ℕ = usable t d present words in
-    Sound xs t d present secret (dealtShares xs t secret random) words (finish xs t d quorum able (voteRows t d able words) (shareWord t d words))
+    Sound xs t d day present secret (dealtShares xs t day secret random) words
+    (finish xs t d quorum able (voteRows t d day able words) (shareWord t d words))

@@ -1,5 +1,5 @@
 -- Instances of demands 2 and 3: dealings and hand-ins that meet all premises, and what opening answers. Proved in proofs/Instances.antt.
--- All keys are 0, so every altered share survives, and no vote is mismatched.
+-- They are dealt and opened for day 1. All keys are 0, so every altered share survives, and no vote is mismatched.
 use Prim.Native.Nat.{ℕ, suc, _*_, _≤_, _<_}
 use mathlib.Core.Path.{_≡_}
 use mathlib.Core.Bool.{true}
@@ -14,11 +14,11 @@ use Rattle.claims.specs.Demands.{Dealing, HandedIn, AsDealt, altered, no
 -- every premise of demand 3, the answer, how many survivors have altered share words, and the surplus; where the honest members are all that
 -- are present, every premise of demand 2 too
 pub record Instance (t : ℕ) (secret random dealt words : List ℕ) (present quorum honest : ℕ) (answer : Opened) (changed extra : ℕ) : Type 0 where
-  pub dealing : Dealing t secret random dealt
+  pub dealing : Dealing t 1 secret random dealt
   pub handed : HandedIn t (length secret) present quorum words
   pub many : suc t ≤ card (size t) honest
   pub as-dealt : (i : ℕ) → i < size t → has honest i ≡ true → AsDealt t (length secret) present dealt words i
-  pub opens : reconstruct t (length secret) present quorum words ≡ record { opened = answer; pairs = noneMismatched (size t) (card (size t) present) }
+  pub opens : reconstruct t (length secret) 1 present quorum words ≡ record { opened = answer; pairs = noneMismatched (size t) (card (size t) present) }
   pub alterations : card (size t) (altered t (length secret) dealt words (answer .survivors)) ≡ changed
   pub surplus-is : surplus t (card (size t) (answer .survivors)) ≡ extra
 
@@ -57,7 +57,7 @@ pub record Instances : Type 0 where
   pub by-default : Unaltered 15 0 1
   pub no-spare : Unaltered 7 3 0
   -- t + 1 do not meet quorum 0: that the quorum is met is needed, also where every share is as dealt
-  pub unmet : reconstruct 2 1 7 0 (shares 2 fiveValues) ≡ record { opened = unopened 1 0 14; pairs = noneMismatched 5 3 }
+  pub unmet : reconstruct 2 1 1 7 0 (shares 2 fiveValues) ≡ record { opened = unopened 1 0 14; pairs = noneMismatched 5 3 }
   -- quorum t + 1, and a survivor altered beside t + 1 as dealt
   pub altered-by-quorum : FiveOf (110 ∷ 126 ∷ 148 ∷ 0 ∷ 210 ∷ []) 15 3 7 (unopened 1 15 16) 1 1
   -- an altered survivor, at most half the surplus: the dealt secret

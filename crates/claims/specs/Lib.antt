@@ -1,4 +1,5 @@
 pub mod Claims
+pub mod Days
 pub mod Demands
 pub mod Examples
 pub mod General

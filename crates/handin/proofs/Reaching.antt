@@ -91,15 +91,15 @@ module _ {t d : ℕ} {all : Taken} {rest : List ℕ} {present : ℕ} {words : Li
           }
 
 -- the answer
-module _ (t d quorum len : ℕ) (all : Taken) (ws : List ℕ) where
+module _ (t d quorum day len : ℕ) (all : Taken) (ws : List ℕ) where
   pub answer-refused : (k was : ℕ) → length ws ≡ was → was ≡ len → all ≡ refused (refusal k)
-      → answerOf (O.Refused k) (cleared (O.Refused k) ws) ≡ readFrom len t d quorum all
+      → answerOf (O.Refused k) (cleared (O.Refused k) ws) ≡ readFrom len t d quorum day all
   unfolding answerOf cleared readFrom unread
   answer-refused k was e f q = rw (q, e, f)
 
   pub answer-accepted : (rest : List ℕ) (present : ℕ) → Reached t d all rest present ws → length rest ≤ 0
-      → answerOf (O.Accepted t d quorum present) (cleared (O.Accepted t d quorum present) ws) ≡ readFrom len t d quorum all
+      → answerOf (O.Accepted t d quorum day present) (cleared (O.Accepted t d quorum day present) ws) ≡ readFrom len t d quorum day all
   unfolding answerOf cleared readFrom
   answer-accepted rest present s h =
       rw (reached-end s h)
-      (ap₂ (λ (p : ℕ) (w : List ℕ). answerOf (O.Accepted t d quorum p) w) (s .holds .members) (s .holds .stored))
+      (ap₂ (λ (p : ℕ) (w : List ℕ). answerOf (O.Accepted t d quorum day p) w) (s .holds .members) (s .holds .stored))

@@ -14,12 +14,12 @@ use lib.ListN.{length, getD, replicate}
 use Rattle.lists.specs.Ascii.{ascii}
 use Rattle.lists.specs.Tabulate.{tab, concat, first}
 use Rattle.lists.proofs.Bools.{test}
-use Rattle.lists.proofs.Checks.{within-intro}
+use Rattle.lists.proofs.Checks.{within-intro, within-high}
 use Rattle.lists.proofs.Every as E
 use Rattle.lists.proofs.Tabulate.{length-tab, tab-ext}
 use Rattle.members.specs.Members.{size, has, setOf}
 use Rattle.members.proofs.Masks.{setOf-ext, setOf-has}
-use Rattle.shares.specs.Layout.{isLength, width, capacity, word, share}
+use Rattle.shares.specs.Layout.{isLength, isDay, width, capacity, word, share}
 use Rattle.shares.specs.Internal.Shape.{InRange}
 use Rattle.shares.proofs.Shapes.{station, is-threshold}
 use Rattle.text.specs.Lines.{parts, lineOf}
@@ -149,32 +149,35 @@ module _ (t d : ℕ) (range : InRange t d) (words : List ℕ) (small : (k : ℕ)
       (tab-ext (size t) (λ i. wordsOr zeros (shareOf (handed (size t)) i)) (λ i. cond (has present i) (share t d words i) zeros)
       (λ i l. ap (wordsOr zeros) (handed-below (size t) i l) ∙ words-or zeros (has present i) (mine i)))
 
-  module _ (quorum : ℕ) (low : quorum < 65536) (inside : present < 2 ^ size t) where
+  module _ (quorum : ℕ) (low : quorum < 65536) (day : ℕ) (is-day : isDay day ≡ true) (inside : present < 2 ^ size t) where
+    small-day : day < 65536
+    small-day = omega (arith, within-high 1 65520 day is-day)
+
     abbrev answer : HandIn
     answer =
-        record { number = 0; t = t; d = d; quorum = quorum; present = present; words = kept ++ replicate (capacity - size t * width t d) 0 }
+        record { number = 0; t = t; d = d; quorum = quorum; day = day; present = present; words = kept ++ replicate (capacity - size t * width t d) 0 }
 
-    answer-from : readFrom capacity t d quorum (takeLines t d [] (parts 10 (shareLines t d present words (size t)))) ≡ answer
+    answer-from : readFrom capacity t d quorum day (takeLines t d [] (parts 10 (shareLines t d present words (size t)))) ≡ answer
     unfolding readFrom
     answer-from =
-        ap (readFrom capacity t d quorum) lines-taken
-        ∙ ap₂ (λ (p : ℕ) (ws : List ℕ). let a : HandIn = record { number = 0; t = t; d = d; quorum = quorum; present = p; words = ws } in a)
+        ap (readFrom capacity t d quorum day) lines-taken
+        ∙ ap₂ (λ (p : ℕ) (ws : List ℕ). let a : HandIn = record { number = 0; t = t; d = d; quorum = quorum; day = day; present = p; words = ws } in a)
         (handed-members inside) handed-placed
 
-    answer-lines : readLines capacity (parts 10 (textOf t d quorum present words)) ≡ answer
+    answer-lines : readLines capacity (parts 10 (textOf t d quorum day present words)) ≡ answer
     unfolding readLines readNumbers textOf ascii
     answer-lines =
-        let ns : List ℕ = t ∷ d ∷ quorum ∷ [] in
+        let ns : List ℕ = t ∷ d ∷ quorum ∷ day ∷ [] in
         let lines : List ℕ = shareLines t d present words (size t) in
-        let back : lineOf 68 3 (body 68 ns) ≡ some ns =
+        let back : lineOf 68 4 (body 68 ns) ≡ some ns =
         line-back 68 ns (λ q. omega (arith, q))
-        (E.more (omega (arith, range .t-high)) (E.more (omega (arith, range .d-high)) (E.more low E.none))) in
+        (E.more (omega (arith, range .t-high)) (E.more (omega (arith, range .d-high)) (E.more low (E.more small-day E.none)))) in
         let p : (x : List ℕ) × (xs : List (List ℕ)) × (parts 10 lines ≡ x ∷ xs) = parts-some 10 lines in
         let long : isLength d ≡ true = within-intro 1 64 d (range .d-low) (range .d-high) in
-        rw (line-first 68 ns lines (λ q. omega (arith, q)), p .2, back, ← p .2, is-threshold t d range, long) answer-from
+        rw (line-first 68 ns lines (λ q. omega (arith, q)), p .2, back, ← p .2, is-threshold t d range, long, is-day) answer-from
 
-    pub read-back : read (textOf t d quorum present words) capacity ≡ answer
+    pub read-back : read (textOf t d quorum day present words) capacity ≡ answer
     unfolding read
     read-back =
-        let short : length (textOf t d quorum present words) ≤ 40000 = omega (arith, text-short t d range words small present quorum low) in
-        rw (le-leb (length (textOf t d quorum present words)) 40000 short) answer-lines
+        let short : length (textOf t d quorum day present words) ≤ 40000 = omega (arith, text-short t d range words small present quorum low day small-day) in
+        rw (le-leb (length (textOf t d quorum day present words)) 40000 short) answer-lines

@@ -12,9 +12,10 @@ use lib.ListN.{length, getD, drop}
 use Rattle.lists.specs.Checks.{Check, _unless_, checked, within}
 use Rattle.lists.specs.Tabulate.{each}
 use Rattle.lists.proofs.Bools.{test}
-use Rattle.lists.proofs.Checks.{check-fails, check-passes, all-passed, number-fits}
+use Rattle.lists.proofs.Checks.{check-fails, check-passes, checked-holds, all-passed, number-fits}
+use Rattle.lists.proofs.Every.{more as every-more, none as every-none}
 use Rattle.members.specs.Members.{size, isThreshold}
-use Rattle.shares.specs.Layout.{width, isLength, capacity}
+use Rattle.shares.specs.Layout.{width, isLength, isDay, capacity}
 use Rattle.shares.specs.Internal.Shape.{InRange}
 use Rattle.shares.proofs.Shapes.{in-range}
 use Rattle.text.specs.Lines.{parts, lineOf}
@@ -67,23 +68,25 @@ module _ (len : ℕ) where
   22-told : Told 22
   22-told = record { low = omega arith; high = omega arith }
 
-  sound-from : (t d quorum : ℕ) (r : Taken) → ToldBy r → InRange t d → Sound (readFrom len t d quorum r)
+  sound-from : (t d quorum day : ℕ) (r : Taken) → ToldBy r → InRange t d → Sound (readFrom len t d quorum day r)
   unfolding readFrom
-  sound-from t d quorum (shares taken) h i = record { fits = zero-le; ranged = λ z. i }
-  sound-from t d quorum (refused k) h i = sound-unread k h
+  sound-from t d quorum day (shares taken) h i = record { fits = zero-le; ranged = λ z. i }
+  sound-from t d quorum day (refused k) h i = sound-unread k h
 
   -- the answer for t and d that passed their checks
-  sound-checked : (t d : ℕ) (answer : HandIn) → (InRange t d → Sound answer) → Sound (checked (unread len) (22 unless isThreshold t ∷ 22 unless isLength d ∷ []) answer)
-  sound-checked t d answer h =
+  sound-checked : (t d day : ℕ) (answer : HandIn) → (InRange t d → Sound answer)
+      → Sound (checked (unread len) (22 unless isThreshold t ∷ 22 unless isLength d ∷ 22 unless isDay day ∷ []) answer)
+  sound-checked t d day answer h =
+      let last : List Check = 22 unless isDay day ∷ [] in
       elim (test (isThreshold t)) [
-        | inr e ↦ rw (check-fails (unread len) 22 (isThreshold t) (22 unless isLength d ∷ []) answer e) (sound-unread 22 22-told)
+        | inr e ↦ rw (check-fails (unread len) 22 (isThreshold t) (22 unless isLength d ∷ last) answer e) (sound-unread 22 22-told)
         | inl e ↦
-            rw (check-passes (unread len) 22 (isThreshold t) (22 unless isLength d ∷ []) answer e)
+            rw (check-passes (unread len) 22 (isThreshold t) (22 unless isLength d ∷ last) answer e)
             (elim (test (isLength d)) [
-              | inr f ↦ rw (check-fails (unread len) 22 (isLength d) [] answer f) (sound-unread 22 22-told)
+              | inr f ↦ rw (check-fails (unread len) 22 (isLength d) last answer f) (sound-unread 22 22-told)
               | inl f ↦
-                  rw (check-passes (unread len) 22 (isLength d) [] answer f)
-                  (h (in-range t d e f))
+                  rw (check-passes (unread len) 22 (isLength d) last answer f)
+                  (checked-holds (unread len) Sound last (every-more (sound-unread 22 22-told) every-none) answer (h (in-range t d e f)))
             ])
       ]
 
@@ -91,14 +94,16 @@ module _ (len : ℕ) where
   unfolding readNumbers
   sound-numbers none lines = sound-unread 22 22-told
   sound-numbers (some ns) lines =
-      sound-checked (getD ns 0 0) (getD ns 1 0) (readFrom len (getD ns 0 0) (getD ns 1 0) (getD ns 2 0) (takeLines (getD ns 0 0) (getD ns 1 0) [] lines))
-      (sound-from (getD ns 0 0) (getD ns 1 0) (getD ns 2 0) (takeLines (getD ns 0 0) (getD ns 1 0) [] lines) (told-lines (getD ns 0 0) (getD ns 1 0) [] lines))
+      sound-checked (getD ns 0 0) (getD ns 1 0) (getD ns 3 0)
+      (readFrom len (getD ns 0 0) (getD ns 1 0) (getD ns 2 0) (getD ns 3 0) (takeLines (getD ns 0 0) (getD ns 1 0) [] lines))
+      (sound-from (getD ns 0 0) (getD ns 1 0) (getD ns 2 0) (getD ns 3 0) (takeLines (getD ns 0 0) (getD ns 1 0) [] lines)
+      (told-lines (getD ns 0 0) (getD ns 1 0) [] lines))
 
   sound-lines : (lines : List (List ℕ)) → Sound (readLines len lines)
   unfolding readLines
   sound-lines [] = sound-unread 22 22-told
   sound-lines (end ∷ []) = sound-unread 22 22-told
-  sound-lines (head ∷ next ∷ more) = sound-numbers (lineOf 68 3 head) (next ∷ more)
+  sound-lines (head ∷ next ∷ more) = sound-numbers (lineOf 68 4 head) (next ∷ more)
 
   pub sound : (text : List ℕ) → Sound (read text len)
   unfolding read unread each

@@ -1,4 +1,4 @@
--- How long the text is: at most 29362 bytes.
+-- How long the text is: at most 29368 bytes.
 -- Assumes nothing.
 use mathlib.Core.Path.{_≡_}
 use mathlib.Core.Logic.{inl, inr}
@@ -22,7 +22,7 @@ use Rattle.shares.specs.declared.Shape.{Shape}
 use Rattle.shares.proofs.Shapes.{station}
 use Rattle.text.specs.Lines.{field, line}
 use Rattle.text.proofs.Printing.{field-most, fields-most, length-list}
-use Rattle.handin.specs.Writer.{shareLine, shareLines, textOf}
+use Rattle.handin.specs.Writer.{firstLine, shareLine, shareLines, textOf}
 use Rattle.handin.proofs.WriterChecks.{text-length}
 use Rattle.handin.proofs.Writing.{Counted, length-more}
 
@@ -31,9 +31,9 @@ lines-step : (n had line all : ℕ) → all ≡ had + line → had ≤ 946 * n +
 lines-step n had line all e h l = omega arith
 
 -- the fields of a D line
-length-three : (a b c : ℕ) → length (concat (map field (a ∷ b ∷ c ∷ []))) ≡ length (field a) + length (field b) + length (field c)
+length-four : (a b c e : ℕ) → length (concat (map field (a ∷ b ∷ c ∷ e ∷ []))) ≡ length (field a) + length (field b) + length (field c) + length (field e)
 unfolding concat
-length-three a b c = simp length-append (omega arith)
+length-four a b c e = simp length-append (omega arith)
 
 module _ (t d : ℕ) (range : InRange t d) (words : List ℕ) (small : (k : ℕ) → getD words k 0 < 65536) where
   pub share-small : (i : ℕ) → Every (λ n. n < 65536) (share t d words i)
@@ -80,19 +80,20 @@ module _ (t d : ℕ) (range : InRange t d) (words : List ℕ) (small : (k : ℕ)
         (length (shareLines t d present words (suc n))) (length-more t d present words n) (lines-most n (omega (arith, h))) (line-most n (has present n) h)
 
     -- the whole text
-    pub text-short : (quorum : ℕ) → quorum < 65536 → length (textOf t d quorum present words) ≤ 29362
+    pub text-short : (quorum : ℕ) → quorum < 65536 → (day : ℕ) → day < 65536 → length (textOf t d quorum day present words) ≤ 29368
     unfolding textOf ascii
-    text-short quorum h =
-        let ns : List ℕ = t ∷ d ∷ quorum ∷ [] in
+    text-short quorum h day g =
+        let ns : List ℕ = t ∷ d ∷ quorum ∷ day ∷ [] in
         let few : size t ≤ 31 = station t d range .few in
         omega (
           arith,
           length-append (line (ascii "D") ns) (shareLines t d present words (size t)),
           length-list (ascii "D") ns,
-          length-three t d quorum,
+          length-four t d quorum day,
           field-most 1 t (omega (arith, range .t-high)),
           field-most 1 d (omega (arith, range .d-high)),
           field-most 4 quorum (omega (arith, h)),
+          field-most 4 day (omega (arith, g)),
           lines-most (size t) few,
           few,
         )
@@ -114,7 +115,11 @@ module _ (s : Shape) (words : List ℕ) (room : Room s words) (small : (k : ℕ)
         lines-most (s .t) (s .d) (room .station .range) words small present (suc i) (omega (arith, few, h)),
       )
 
-  pub text-fits : (quorum a b : ℕ) → quorum < 65536 → a ≡ length (line (ascii "D") (s .t ∷ s .d ∷ quorum ∷ []))
-      → b ≡ length (shareLines (s .t) (s .d) present words (s .n)) → a + b ≤ 29362
-  text-fits quorum a b low ea eb =
-      omega (arith, text-length s quorum present words room a b ea eb, text-short (s .t) (s .d) (room .station .range) words small present quorum low)
+  pub text-fits : (quorum : ℕ) → quorum < 65536 → (day : ℕ) → day < 65536 → (a b : ℕ) → a ≡ length (firstLine (s .t) (s .d) quorum day)
+      → b ≡ length (shareLines (s .t) (s .d) present words (s .n)) → a + b ≤ 29368
+  text-fits quorum low day small-day a b ea eb =
+      omega (
+        arith,
+        text-length s quorum day present words room a b ea eb,
+        text-short (s .t) (s .d) (room .station .range) words small present quorum low day small-day,
+      )

@@ -12,8 +12,9 @@ use Rattle.handin.specs.declared.Wrote.the-variants as wrote
 
 -- document 01's number and values for each outcome, with the buffer at exit
 unfoldable pub answerOf : Outcome → List ℕ → HandIn
-answerOf (Accepted t d quorum present) words = record { number = 0; t = t; d = d; quorum = quorum; present = present; words = words }
-answerOf (Refused k) words = record { number = refusal k; t = 0; d = 0; quorum = 0; present = 0; words = words }
+answerOf (Accepted t d quorum day present) words =
+    record { number = 0; t = t; d = d; quorum = quorum; day = day; present = present; words = words }
+answerOf (Refused k) words = record { number = refusal k; t = 0; d = 0; quorum = 0; day = 0; present = 0; words = words }
 
 -- document 02's number and length for each outcome, with the buffer at exit
 unfoldable pub writtenOf : Wrote → List ℕ → HandInText

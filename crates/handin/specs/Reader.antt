@@ -1,4 +1,4 @@
--- The reader of hand-in text (document 01): a D line, then P lines, one after the other.
+-- The reader of hand-in text (document 01; document 02, W-205): a D line, then P lines, one after the other.
 -- Assumes nothing.
 use Prim.Native.Nat.{ℕ, _+_, _-_, _*_}
 use mathlib.Core.Bool.{Bool, true, false, not}
@@ -9,7 +9,7 @@ use lib.ListN.{length, getD, drop, replicate}
 use Rattle.lists.specs.Tabulate.{tab, concat, first}
 use Rattle.lists.specs.Checks.{_unless_, checked, within}
 use Rattle.members.specs.Members.{isThreshold, size, setOf}
-use Rattle.shares.specs.Layout.{isLength, width, capacity}
+use Rattle.shares.specs.Layout.{isLength, isDay, width, capacity}
 use Rattle.text.specs.Lines.{parts, lineOf}
 
 -- a P line that was taken: the member, counted from 0, and the words of its share
@@ -56,18 +56,19 @@ takeLines t d taken (end ∷ []) = elim end [ [] ↦ shares taken | b ∷ bs ↦
 takeLines t d taken (line ∷ next ∷ more) =
     elim (takeLine t d taken line) [ shares now ↦ takeLines t d now (next ∷ more) | refused k ↦ refused k ]
 
--- what the reader answers: 0 or the refusal's number, t, d, the quorum, the present mask, and the buffer at exit
+-- what the reader answers: 0 or the refusal's number, t, d, the quorum, the day, the present mask, and the buffer at exit
 pub record HandIn : Type 0 where
   pub number : ℕ
   pub t : ℕ
   pub d : ℕ
   pub quorum : ℕ
+  pub day : ℕ
   pub present : ℕ
   pub words : List ℕ
 
 -- a refusal fills the buffer, which has len words, with 0, and every number is 0
 unfoldable pub unread : ℕ → ℕ → HandIn
-unread len k = record { number = k; t = 0; d = 0; quorum = 0; present = 0; words = replicate len 0 }
+unread len k = record { number = k; t = 0; d = 0; quorum = 0; day = 0; present = 0; words = replicate len 0 }
 
 -- the shares in member order, zeros for absent members and after the last share
 unfoldable pub placed : ℕ → ℕ → List Share → List ℕ
@@ -75,25 +76,27 @@ placed t d taken =
     concat (tab (size t) (λ i. wordsOr (replicate (width t d) 0) (shareOf taken i)))
     ++ replicate (capacity - size t * width t d) 0
 
-unfoldable pub readFrom : ℕ → ℕ → ℕ → ℕ → Taken → HandIn
-readFrom len t d quorum (refused k) = unread len k
-readFrom len t d quorum (shares taken) =
-    record { number = 0; t = t; d = d; quorum = quorum; present = setOf (size t) (λ i. isSome (shareOf taken i)); words = placed t d taken }
+unfoldable pub readFrom : ℕ → ℕ → ℕ → ℕ → ℕ → Taken → HandIn
+readFrom len t d quorum day (refused k) = unread len k
+readFrom len t d quorum day (shares taken) =
+    let members : ℕ = setOf (size t) (λ i. isSome (shareOf taken i)) in
+    record { number = 0; t = t; d = d; quorum = quorum; day = day; present = members; words = placed t d taken }
 
--- the first line's three numbers, and the lines after it: 22 where it is no D line, or t or d is out of range
+-- the first line's four numbers, and the lines after it: 22 where it is no D line, or t, d or the day is out of range
 unfoldable pub readNumbers : ℕ → Option (List ℕ) → List (List ℕ) → HandIn
 readNumbers len none lines = unread len 22
 readNumbers len (some ns) lines =
     let t : ℕ = getD ns 0 0 in
     let d : ℕ = getD ns 1 0 in
-    let answer : HandIn = readFrom len t d (getD ns 2 0) (takeLines t d [] lines) in
-    checked (unread len) (22 unless isThreshold t ∷ 22 unless isLength d ∷ []) answer
+    let day : ℕ = getD ns 3 0 in
+    let answer : HandIn = readFrom len t d (getD ns 2 0) day (takeLines t d [] lines) in
+    checked (unread len) (22 unless isThreshold t ∷ 22 unless isLength d ∷ 22 unless isDay day ∷ []) answer
 
 -- a first line that no byte 10 ends is no D line
 unfoldable pub readLines : ℕ → List (List ℕ) → HandIn
 readLines len [] = unread len 22
 readLines len (end ∷ []) = unread len 22
-readLines len (line ∷ next ∷ more) = readNumbers len (lineOf 68 3 line) (next ∷ more)
+readLines len (line ∷ next ∷ more) = readNumbers len (lineOf 68 4 line) (next ∷ more)
 
 -- the buffer has len words, and must have room for the largest station
 unfoldable pub read : List ℕ → ℕ → HandIn

@@ -3,11 +3,10 @@ use shares::Shape;
 ghost use mathlib.Core.Path.{_≡_};
 ghost use mathlib.Core.Bool.{cond};
 ghost use mathlib.Core.Option.{some};
-ghost use mathlib.Core.List.{List, [], _∷_};
+ghost use mathlib.Core.List.{List, []};
 ghost use Prim.Native.Nat.{_+_, _≤_, _<_};
 ghost use lib.ListN.{length, replicate};
 ghost use lib.Seq.{sets};
-ghost use Rattle.lists.specs.Ascii.{ascii};
 ghost use Rattle.lists.specs.Checks.{refusal};
 ghost use Rattle.members.specs.Members.{has};
 ghost use Rattle.shares.specs.Layout.{capacity};
@@ -15,7 +14,7 @@ ghost use Rattle.shares.specs.Internal.Shape.{Station, Room};
 ghost use Rattle.text.specs.Lines.{parts, line};
 ghost use Rattle.text.specs.Internal.Writing.{Written};
 ghost use Rattle.handin.specs.Reader.{Share, takeNumbers, takeLine, takeLines, unread, readFrom, readNumbers, readLines, read};
-ghost use Rattle.handin.specs.Writer.{shareLine, shareLines, textOf, write};
+ghost use Rattle.handin.specs.Writer.{firstLine, shareLine, shareLines, textOf, write};
 ghost use Rattle.handin.specs.Internal.Fitted.{fitted};
 ghost use Rattle.handin.specs.Internal.Progress.{Holds, Comes, cleared};
 ghost use Rattle.handin.specs.Answer.{answerOf, writtenOf};
@@ -75,17 +74,25 @@ pub enum Outcome {
         t: usize,
         d: usize,
         quorum: u16,
+        day: u16,
         present: u32,
     },
     Refused(u16),
 }
 
 // The P lines one after the other. The buffer is all zeros at first, and is cleared by the caller on a refusal.
-fn take_lines(text: &[u8], s: Shape, quorum: u16, scratch: &mut [u16], words: &mut [u16]) -> Outcome
+fn take_lines(
+    text: &[u8],
+    s: Shape,
+    quorum: u16,
+    day: u16,
+    scratch: &mut [u16],
+    words: &mut [u16],
+) -> Outcome
     requires { ⌜ Station s ⌝ }
     requires { ⌜ (length (now scratch) ≡ 1 + s .width) × (length (now words) ≡ capacity) ⌝ }
     requires { ⌜ now words ≡ replicate (length (now words)) 0 ⌝ }
-    ensures { λ r. ⌜ answerOf r (cleared r (now (words .exit))) ≡ readFrom (length (now (words .entry))) (s .t) (s .d) quorum (takeLines (s .t) (s .d) [] (parts 10 (now (text .entry)))) ⌝ }
+    ensures { λ r. ⌜ answerOf r (cleared r (now (words .exit))) ≡ readFrom (length (now (words .entry))) (s .t) (s .d) quorum day (takeLines (s .t) (s .d) [] (parts 10 (now (text .entry)))) ⌝ }
 {
     let mut present: u32 = 0;
     let mut rest = text;
@@ -104,13 +111,14 @@ fn take_lines(text: &[u8], s: Shape, quorum: u16, scratch: &mut [u16], words: &m
         t: s.t,
         d: s.d,
         quorum,
+        day,
         present,
     }
 }
 
 // The numbers of a D line, and the P lines after it.
 fn read_numbers(text: &[u8], first: &[u16], scratch: &mut [u16], words: &mut [u16]) -> Outcome
-    requires { ⌜ (length (now first) ≡ 3) × (length (now scratch) ≡ 158) ⌝ }
+    requires { ⌜ (length (now first) ≡ 4) × (length (now scratch) ≡ 158) ⌝ }
     requires { ⌜ (length (now words) ≡ capacity) × (now words ≡ replicate (length (now words)) 0) ⌝ }
     ensures { λ r. ⌜ answerOf r (cleared r (now (words .exit))) ≡ readNumbers (length (now (words .entry))) (some (now (first .entry))) (parts 10 (now (text .entry))) ⌝ }
 {
@@ -122,14 +130,17 @@ fn read_numbers(text: &[u8], first: &[u16], scratch: &mut [u16], words: &mut [u1
     if !lists::within(1, 64, d) {
         return Outcome::Refused(22);
     }
+    if !shares::is_day(first[3]) {
+        return Outcome::Refused(22);
+    }
     let s = shares::shape_of(t, d);
     let k = 1 + s.width;
-    take_lines(text, s, first[2], &mut scratch[..k], words)
+    take_lines(text, s, first[2], first[3], &mut scratch[..k], words)
 }
 
 // A text's first line, which a byte 10 ends, and the lines after it.
 fn read_lines(text: &[u8], first: &mut [u16], scratch: &mut [u16], words: &mut [u16]) -> Outcome
-    requires { ⌜ (length (now first) ≡ 3) × (length (now scratch) ≡ 158) ⌝ }
+    requires { ⌜ (length (now first) ≡ 4) × (length (now scratch) ≡ 158) ⌝ }
     requires { ⌜ (length (now words) ≡ capacity) × (now words ≡ replicate (length (now words)) 0) ⌝ }
     ensures { λ r. ⌜ answerOf r (cleared r (now (words .exit))) ≡ readLines (length (now (words .entry))) (parts 10 (now (text .entry))) ⌝ }
 {
@@ -143,12 +154,12 @@ fn read_lines(text: &[u8], first: &mut [u16], scratch: &mut [u16], words: &mut [
     read_numbers(&text[e + 1..], first, scratch, words)
 }
 
-// Lends what a line's numbers are kept in: 3 of a D line, at most 158 of a P line.
+// Lends what a line's numbers are kept in: 4 of a D line, at most 158 of a P line.
 fn read_text(text: &[u8], words: &mut [u16]) -> Outcome
     requires { ⌜ (length (now words) ≡ capacity) × (now words ≡ replicate (length (now words)) 0) ⌝ }
     ensures { λ r. ⌜ answerOf r (cleared r (now (words .exit))) ≡ readLines (length (now (words .entry))) (parts 10 (now (text .entry))) ⌝ }
 {
-    let mut first = [0u16; 3];
+    let mut first = [0u16; 4];
     let mut scratch = [0u16; 158];
     read_lines(text, &mut first, &mut scratch, words)
 }
@@ -176,11 +187,13 @@ pub fn read(text: &[u8], words: &mut [u16]) -> Outcome
             t,
             d,
             quorum,
+            day,
             present,
         } => Outcome::Accepted {
             t,
             d,
             quorum,
+            day,
             present,
         },
         Outcome::Refused(k) => refuse(words, k),
@@ -188,21 +201,21 @@ pub fn read(text: &[u8], words: &mut [u16]) -> Outcome
 }
 
 // How many bytes the D line has.
-fn first_length(s: Shape, quorum: u16) -> usize
+fn first_length(s: Shape, quorum: u16, day: u16) -> usize
     requires { ⌜ Station s ⌝ }
-    ensures { λ r. ⌜ r ≡ length (line (ascii "D") (s .t ∷ s .d ∷ quorum ∷ [])) ⌝ }
+    ensures { λ r. ⌜ r ≡ length (firstLine (s .t) (s .d) quorum day) ⌝ }
 {
-    let rest = [s.d as u16, quorum];
+    let rest = [s.d as u16, quorum, day];
     text::list_length(b"D", s.t as u16, &rest)
 }
 
 // The D line, at the front.
-fn put_first(s: Shape, quorum: u16, text: &mut [u8]) -> usize
+fn put_first(s: Shape, quorum: u16, day: u16, text: &mut [u8]) -> usize
     requires { ⌜ Station s ⌝ }
-    requires { ⌜ length (line (ascii "D") (s .t ∷ s .d ∷ quorum ∷ [])) ≤ length (now text) ⌝ }
-    ensures { λ r. ⌜ Written (now (text .entry)) 0 (line (ascii "D") (s .t ∷ s .d ∷ quorum ∷ [])) (now (text .exit)) r ⌝ }
+    requires { ⌜ length (firstLine (s .t) (s .d) quorum day) ≤ length (now text) ⌝ }
+    ensures { λ r. ⌜ Written (now (text .entry)) 0 (firstLine (s .t) (s .d) quorum day) (now (text .exit)) r ⌝ }
 {
-    let rest = [s.d as u16, quorum];
+    let rest = [s.d as u16, quorum, day];
     text::put_list(b"D", s.t as u16, &rest, text, 0)
 }
 
@@ -264,11 +277,11 @@ fn put_shares(s: Shape, present: u32, shares: &[u16], text: &mut [u8], at: usize
 }
 
 // How many bytes the text has.
-fn text_length(s: Shape, quorum: u16, present: u32, shares: &[u16]) -> usize
+fn text_length(s: Shape, quorum: u16, day: u16, present: u32, shares: &[u16]) -> usize
     requires { ⌜ Room s (now shares) ⌝ }
-    ensures { λ r. ⌜ r ≡ length (textOf (s .t) (s .d) quorum present (now (shares .entry))) ⌝ }
+    ensures { λ r. ⌜ r ≡ length (textOf (s .t) (s .d) quorum day present (now (shares .entry))) ⌝ }
 {
-    first_length(s, quorum) + shares_length(s, present, shares)
+    first_length(s, quorum, day) + shares_length(s, present, shares)
 }
 
 // How many bytes were written, or a refusal's number.
@@ -278,14 +291,21 @@ pub enum Wrote {
 }
 
 // The text, where it fits; its length is known before the first byte is written.
-fn write_text(s: Shape, quorum: u16, present: u32, shares: &[u16], text: &mut [u8]) -> Wrote
+fn write_text(
+    s: Shape,
+    quorum: u16,
+    day: u16,
+    present: u32,
+    shares: &[u16],
+    text: &mut [u8],
+) -> Wrote
     requires { ⌜ Room s (now shares) ⌝ }
-    ensures { λ r. ⌜ writtenOf r (now (text .exit)) ≡ fitted (textOf (s .t) (s .d) quorum present (now (shares .entry))) (now (text .entry)) ⌝ }
+    ensures { λ r. ⌜ writtenOf r (now (text .exit)) ≡ fitted (textOf (s .t) (s .d) quorum day present (now (shares .entry))) (now (text .entry)) ⌝ }
 {
-    if text.len() < text_length(s, quorum, present, shares) {
+    if text.len() < text_length(s, quorum, day, present, shares) {
         return Wrote::Refused(31);
     }
-    let at = put_first(s, quorum, text);
+    let at = put_first(s, quorum, day, text);
     Wrote::Bytes(put_shares(s, present, shares, text, at))
 }
 
@@ -294,17 +314,21 @@ pub fn write(
     t: usize,
     d: usize,
     quorum: u16,
+    day: u16,
     present: u32,
     shares: &[u16],
     text: &mut [u8],
 ) -> Wrote
-    ensures { λ r. ⌜ writtenOf r (now (text .exit)) ≡ write t d quorum present (now (shares .entry)) (now (text .entry)) ⌝ }
+    ensures { λ r. ⌜ writtenOf r (now (text .exit)) ≡ write t d quorum day present (now (shares .entry)) (now (text .entry)) ⌝ }
 {
     if !members::threshold(t) {
         return Wrote::Refused(1);
     }
     if !lists::within(1, 64, d) {
         return Wrote::Refused(2);
+    }
+    if !shares::is_day(day) {
+        return Wrote::Refused(32);
     }
     let s = shares::shape_of(t, d);
     if shares.len() != s.n * s.width {
@@ -313,5 +337,5 @@ pub fn write(
     if members::first(s.n) < present {
         return Wrote::Refused(12);
     }
-    write_text(s, quorum, present, shares, text)
+    write_text(s, quorum, day, present, shares, text)
 }

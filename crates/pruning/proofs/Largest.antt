@@ -6,13 +6,14 @@ use mathlib.Core.Bool.{true, _&&_}
 use mathlib.Core.List.{List}
 use Prim.Native.Nat.{ℕ, zero, suc, _≤_, _<_, _^_, zero-le}
 use native.Mathlib.Nat.{le-trans, le-of-suc-le-suc}
+use native.Mathlib.Omega.{arith}
 use lib.Dec.{leb, ltb}
 use lib.ListN.{getD}
 use borrow.Author.Tests.{leb-true, le-leb, ltb-true, ltb-false}
-use Rattle.lists.proofs.Bools.{and-intro, and-left, and-right, test}
-use Rattle.lists.proofs.Count.{count-mono}
+use Rattle.lists.proofs.Bools.{and-intro, and-left, and-right, test, clash}
+use Rattle.lists.proofs.Count.{count-mono, count-some}
 use Rattle.members.specs.Members.{size, has, setOf, card}
-use Rattle.members.proofs.Masks.{has-setOf, setOf-lt, subsets-equal, card-le, card-same, card-none, card-some}
+use Rattle.members.proofs.Masks.{has-zero, has-setOf, setOf-lt, subsets-equal, card-le, card-same, card-none, card-some}
 use Rattle.pruning.specs.Pruning.{votes, round, rounds, survivors, Closed, Largest}
 
 -- every closed set is contained in this one
@@ -144,6 +145,25 @@ module _ (t : ℕ) (rows : List ℕ) where
 
   pub survivors-size : (survivors t rows ≡ 0) ⊎ (suc t ≤ card (size t) (survivors t rows))
   survivors-size = closed-size (survivors t rows) (survivors-largest .below) (survivors-largest .closed)
+
+  -- a survivor has a vote
+  pub survivor-voted : (i : ℕ) → i < size t → has (survivors t rows) i ≡ true → getD rows i 0 ≡ 0 → ⊥
+  unfolding votes
+  survivor-voted i l h none =
+      let set : ℕ = survivors t rows in
+      let (j, below, both) : (j : ℕ) × (j < size t) × (has (getD rows i 0) j && has set j ≡ true) =
+      count-some (size t) (λ j. has (getD rows i 0) j && has set j) (omega (arith, survivors-largest .closed .accepted i l h)) in
+      clash (and-left (has (getD rows i 0) j) (has set j) both) (ap (λ (m : ℕ). has m j) none ∙ has-zero j)
+
+  -- where nobody has a vote nobody survives
+  pub no-votes : ((i : ℕ) → i < size t → getD rows i 0 ≡ 0) → survivors t rows ≡ 0
+  no-votes none =
+      elim survivors-size [
+        | inl e ↦ e
+        | inr many ↦
+            let (i, below, e) : (i : ℕ) × (i < size t) × (has (survivors t rows) i ≡ true) = card-some (size t) (survivors t rows) (omega (arith, many)) in
+            absurd (survivor-voted i below e (none i below))
+      ]
 
   -- In whatever order members are struck: a closed set that every closed set is contained in is the survivors.
   pub struck-survivors : (set : ℕ) → set < 2 ^ size t → Above t rows set → Closed t rows set → set ≡ survivors t rows

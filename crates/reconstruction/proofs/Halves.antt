@@ -2,19 +2,18 @@
 -- Assumes nothing.
 use mathlib.Core.Path.{_≡_, sym, ap, _∙_, subst}
 use mathlib.Core.Logic.{inl, inr}
-use mathlib.Core.Bool.{true, _&&_}
+use mathlib.Core.Bool.{true}
 use mathlib.Core.List.{List}
 use Prim.Native.Nat.{ℕ, _≤_, _<_, _^_}
 use native.Mathlib.Omega.{arith}
 use lib.ListN.{length, getD}
-use borrow.Author.Tests.{le-leb, lt-leb, lt-ltb, eq-eqb}
+use borrow.Author.Tests.{lt-leb, lt-ltb}
 use Rattle.lists.specs.Tabulate.{each}
 use Rattle.lists.proofs.Blocks.{every-tab, every-each}
-use Rattle.lists.proofs.Bools.{test, clash, and-left}
-use Rattle.lists.proofs.Count.{count-some}
+use Rattle.lists.proofs.Bools.{test}
 use Rattle.lists.proofs.Tabulate.{length-tab}
 use Rattle.members.specs.Members.{isThreshold, size, ownPoints, has, setOf, isSet, card}
-use Rattle.members.proofs.Masks.{setOf-lt, has-zero}
+use Rattle.members.proofs.Masks.{setOf-lt}
 use Rattle.members.proofs.Words.{card-32}
 use Rattle.shares.specs.Layout.{shareWord}
 use Rattle.shares.specs.Internal.Shape.{Room}
@@ -27,12 +26,12 @@ use Rattle.voting.proofs.Rows.{empty-row}
 use Rattle.pruning.specs.declared.Survivors.{Survivors}
 use Rattle.pruning.specs.declared.Survivors.the-variants.{Left, Refused}
 use Rattle.pruning.specs.Answer.{answerOf}
-use Rattle.pruning.specs.Pruning.{Pruned, votes, survivors, prune}
+use Rattle.pruning.specs.Pruning.{Pruned, survivors, prune}
 use Rattle.pruning.proofs.Answers.{accepts as accepted}
-use Rattle.pruning.proofs.Largest.{survivors-largest, survivors-size}
+use Rattle.pruning.proofs.Largest.{survivors-largest, survivors-size, survivor-voted}
 use Rattle.reconstruction.specs.Reconstruction.{Opened, unopened, required, finish, Answered}
 use Rattle.reconstruction.specs.Internal.Steps.{Voted, Decodable, byWords, byVotes, byShares}
-use Rattle.reconstruction.proofs.Opening.{finish-opens}
+use Rattle.reconstruction.proofs.Opening.{finish-opens, finish-none}
 
 -- what pruning's answer gives is the survivors
 module _ (t : ℕ) (rows : List ℕ) (h : isThreshold t ≡ true) (long : length rows ≡ size t) (sets : each (isSet (size t)) rows ≡ true)
@@ -47,37 +46,28 @@ module _ (t : ℕ) (rows : List ℕ) (h : isThreshold t ≡ true) (long : length
   survivors-none k = given (Refused k)
 
 -- the votes of shares: nobody accepts a member that is not usable
-pub votes-voted : (s : Shape) (words : List ℕ) → Room s words → (able present : ℕ) → able ≡ usable (s .t) (s .d) present words
-    → (rows : List ℕ) → rows ≡ voteRows (s .t) (s .d) able words → Voted s able rows words
+pub votes-voted : (s : Shape) (words : List ℕ) → Room s words → (day able present : ℕ) → able ≡ usable (s .t) (s .d) present words
+    → (rows : List ℕ) → rows ≡ voteRows (s .t) (s .d) day able words → Voted s able rows words
 unfolding voteRows
-votes-voted s words room able present ea rows er =
+votes-voted s words room day able present ea rows er =
     let (t, d) : ℕ × ℕ = (s .t, s .d) in
-    let row : ℕ → ℕ = λ i. setOf (size t) (λ j. accepts t d able words j i) in
+    let row : ℕ → ℕ = λ i. setOf (size t) (λ j. accepts t d day able words j i) in
     record {
       below = subst (λ (m : ℕ). m < 2 ^ size t) (sym ea) (usable-lt t d present words);
       long = ap length er ∙ length-tab (size t) row;
       sets =
           ap (each (isSet (size t))) er
-          ∙ every-each (isSet (size t)) (every-tab (size t) row (λ i l. lt-ltb (row i) (2 ^ size t) (setOf-lt (size t) (λ j. accepts t d able words j i))));
+          ∙ every-each (isSet (size t)) (every-tab (size t) row (λ i l. lt-ltb (row i) (2 ^ size t) (setOf-lt (size t) (λ j. accepts t d day able words j i))));
       field = λ i l some k m.
           elim (test (has able i)) [
             | inl e ↦ usable-words t d present words i l (subst (λ (a : ℕ). has a i ≡ true) ea e) k (omega (arith, room .station .share, room .station .parts))
-            | inr e ↦ absurd (some (ap (λ (r : List ℕ). getD r i 0) er ∙ row-is t d able words i l ∙ empty-row t d able words i e))
+            | inr e ↦ absurd (some (ap (λ (r : List ℕ). getD r i 0) er ∙ row-is t d day able words i l ∙ empty-row t d day able words i e))
           ];
     }
 
 module _ (s : Shape) (words : List ℕ) (room : Room s words) (able : ℕ) (rows : List ℕ) (voted : Voted s able rows words) where
   abbrev t : ℕ
   t = s .t
-
-  -- a survivor has a vote
-  voted-for : (i : ℕ) → i < size t → has (survivors t rows) i ≡ true → getD rows i 0 ≡ 0 → ⊥
-  unfolding votes
-  voted-for i l h none =
-      let set : ℕ = survivors t rows in
-      let (j, below, both) : (j : ℕ) × (j < size t) × (has (getD rows i 0) j && has set j ≡ true) =
-      count-some (size t) (λ j. has (getD rows i 0) j && has set j) (omega (arith, survivors-largest t rows .closed .accepted i l h)) in
-      clash (and-left (has (getD rows i 0) j) (has set j) both) (ap (λ (m : ℕ). has m j) none ∙ has-zero j)
 
   module _ (v : ℕ) (ev : v ≡ survivors t rows) where
     pub decodable : (v ≡ 0 → ⊥) → Decodable t (s .d) words v
@@ -86,7 +76,7 @@ module _ (s : Shape) (words : List ℕ) (room : Room s words) (able : ℕ) (rows
         (record {
           below = survivors-largest t rows .below;
           enough = elim (survivors-size t rows) [ inl z ↦ absurd (some-left (ev ∙ z)) | inr h ↦ h ];
-          field = λ i l h k m. voted .field i l (voted-for i l h) k m;
+          field = λ i l h k m. voted .field i l (survivor-voted t rows i l h) k m;
         })
 
   -- the code's counts of usable members and of those that the quorum asks for
@@ -107,11 +97,10 @@ module _ (s : Shape) (words : List ℕ) (room : Room s words) (able : ℕ) (rows
       met = omega (arith, counted, eq)
 
       pub finish-15 : v ≡ 0 → (answer : Opened) (len : ℕ) → len ≡ s .d → answer ≡ unopened len 0 15 → answer ≡ finished
-      unfolding finish
       finish-15 z answer len el e =
           e
           ∙ ap (λ (m : ℕ). unopened m 0 15) el
-          ∙ sym (rw (le-leb (required t quorum) (card (size t) able) met, eq-eqb (survivors t rows) 0 (sym ev ∙ z)))
+          ∙ sym (finish-none (ownPoints t) t (s .d) quorum able rows (shareWord t (s .d) words) met (sym ev ∙ z))
 
       pub finish-words : (v ≡ 0 → ⊥) → (answer : Opened) → answer ≡ byWords s words v → answer ≡ finished
       finish-words some-left answer e =
@@ -120,15 +109,15 @@ module _ (s : Shape) (words : List ℕ) (room : Room s words) (able : ℕ) (rows
           ∙ sym (finish-opens (ownPoints t) t (s .d) quorum able rows (shareWord t (s .d) words) met (λ z. some-left (ev ∙ z)))
 
 -- the votes of shares, with the usable members that the code has found
-pub by-votes : (s : Shape) (words : List ℕ) (quorum present able : ℕ) → able ≡ usable (s .t) (s .d) present words
-    → (rows : List ℕ) → rows ≡ voteRows (s .t) (s .d) able words → (p : Pairs) → pairsOf p ≡ pairs (s .t) (s .d) able words
+pub by-votes : (s : Shape) (words : List ℕ) (quorum day present able : ℕ) → able ≡ usable (s .t) (s .d) present words
+    → (rows : List ℕ) → rows ≡ voteRows (s .t) (s .d) day able words → (p : Pairs) → pairsOf p ≡ pairs (s .t) (s .d) day able words
     → (opened : Opened) → opened ≡ byVotes s quorum able rows words
-    → (let a : Answered = record { opened = opened; pairs = pairsOf p } in a) ≡ byShares s present quorum words
-by-votes s words quorum present able ea rows er p ep opened e i =
+    → (let a : Answered = record { opened = opened; pairs = pairsOf p } in a) ≡ byShares s day present quorum words
+by-votes s words quorum day present able ea rows er p ep opened e i =
     record {
       opened =
           (e
           ∙ ap (λ (r : List ℕ). byVotes s quorum able r words) er
-          ∙ ap (λ (a : ℕ). byVotes s quorum a (voteRows (s .t) (s .d) a words) words) ea) i;
-      pairs = (ep ∙ ap (λ (a : ℕ). pairs (s .t) (s .d) a words) ea) i;
+          ∙ ap (λ (a : ℕ). byVotes s quorum a (voteRows (s .t) (s .d) day a words) words) ea) i;
+      pairs = (ep ∙ ap (λ (a : ℕ). pairs (s .t) (s .d) day a words) ea) i;
     }

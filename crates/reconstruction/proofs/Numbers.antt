@@ -22,17 +22,17 @@ unfolding openedFrom unopened
 from-fits xs t d y s none = omega arith
 from-fits xs t d y s (some fs) = zero-le
 
-module _ (t d present quorum : ℕ) (words : List ℕ) where
-  pub opened-fits : reconstruct t d present quorum words .opened .number ≤ 65535
+module _ (t d day present quorum : ℕ) (words : List ℕ) where
+  pub opened-fits : reconstruct t d day present quorum words .opened .number ≤ 65535
   unfolding reconstruct finish unopened turnedAway each
   opened-fits =
       let able : ℕ = usable t d present words in
-      let rows : List ℕ = voteRows t d able words in
+      let rows : List ℕ = voteRows t d day able words in
       let survived : ℕ = survivors t rows in
       let y : ℕ → ℕ → ℕ = shareWord t d words in
       let found : Opened = openedFrom (ownPoints t) t d y survived (find (ownPoints t) t d y survived) in
-      number-fits (turnedAway d) (λ a. a .opened .number) (λ k. refl) (checks t d present quorum words) refl
-      (record { opened = finish (ownPoints t) t d quorum able rows y; pairs = pairs t d able words })
+      number-fits (turnedAway d) (λ a. a .opened .number) (λ k. refl) (checks t d day present quorum words) refl
+      (record { opened = finish (ownPoints t) t d quorum able rows y; pairs = pairs t d day able words })
       (number-fits (unopened d 0) (λ a. a .number) (λ k. refl)
       (14 unless leb (required t quorum) (card (size t) able) ∷ 15 unless not (eqb survived 0) ∷ [])
       refl found (from-fits (ownPoints t) t d y survived (find (ownPoints t) t d y survived)))

@@ -12,9 +12,9 @@ use lib.ListN.{length, replicate}
 use borrow.Author.Tests.{le-leb, lt-ltb, eq-eqb, ne-eqb}
 use Rattle.lists.specs.Checks.{refusal, within}
 use Rattle.lists.proofs.Bools.{test}
-use Rattle.lists.proofs.Checks.{within-low}
+use Rattle.lists.proofs.Checks.{within-low, within-high}
 use Rattle.members.specs.Members.{isThreshold, size, ownPoints, card}
-use Rattle.shares.specs.Layout.{isLength, width, shareWord}
+use Rattle.shares.specs.Layout.{isLength, isDay, width, shareWord}
 use Rattle.voting.specs.Votes.{usable, voteRows, noPairs, pairs}
 use Rattle.voting.specs.declared.Pairs.{Pairs}
 use Rattle.voting.specs.Answer.{pairsOf}
@@ -31,15 +31,22 @@ unfolding finish
 finish-opens xs t d quorum able rows y met some-left =
     rw (le-leb (required t quorum) (card (size t) able) met, ne-eqb (survivors t rows) 0 some-left)
 
--- input that passes the first five checks
-pub reconstruct-finishes : (t d present quorum : ℕ) (words : List ℕ) → isThreshold t ≡ true → isLength d ≡ true → length words ≡ size t * width t d
+-- and no survivors: 15
+pub finish-none : (xs : List ℕ) (t d quorum able : ℕ) (rows : List ℕ) (y : ℕ → ℕ → ℕ) → required t quorum ≤ card (size t) able → survivors t rows ≡ 0
+    → finish xs t d quorum able rows y ≡ unopened d 0 15
+unfolding finish
+finish-none xs t d quorum able rows y met none-left =
+    rw (le-leb (required t quorum) (card (size t) able) met, eq-eqb (survivors t rows) 0 none-left)
+
+-- input that passes the checks before the votes
+pub reconstruct-finishes : (t d day present quorum : ℕ) (words : List ℕ) → isThreshold t ≡ true → isLength d ≡ true → isDay day ≡ true → length words ≡ size t * width t d
     → present < 2 ^ size t → isQuorum t quorum ≡ true
     → let able : ℕ = usable t d present words in
-    reconstruct t d present quorum words
-    ≡ record { opened = finish (ownPoints t) t d quorum able (voteRows t d able words) (shareWord t d words); pairs = pairs t d able words }
+    reconstruct t d day present quorum words
+    ≡ record { opened = finish (ownPoints t) t d quorum able (voteRows t d day able words) (shareWord t d words); pairs = pairs t d day able words }
 unfolding reconstruct
-reconstruct-finishes t d present quorum words ht hd hw hp hq =
-    rw (ht, hd, eq-eqb (length words) (size t * width t d) hw, lt-ltb present (2 ^ size t) hp, hq)
+reconstruct-finishes t d day present quorum words ht hd hy hw hp hq =
+    rw (ht, hd, hy, eq-eqb (length words) (size t * width t d) hw, lt-ltb present (2 ^ size t) hp, hq)
 
 -- a quorum asks for at least t + 1
 pub required-least : (t quorum : ℕ) → isQuorum t quorum ≡ true → suc t ≤ required t quorum
@@ -48,6 +55,15 @@ required-least t quorum h =
     elim (test (eqb quorum 0)) [
       | inl e ↦ rw e (omega arith)
       | inr e ↦ rw e (within-low (suc t) (size t) quorum (rw e at h))
+    ]
+
+-- and for at most n
+pub required-most : (t quorum : ℕ) → 1 ≤ t → isQuorum t quorum ≡ true → required t quorum ≤ size t
+unfolding isQuorum required size
+required-most t quorum low h =
+    elim (test (eqb quorum 0)) [
+      | inl e ↦ rw e (omega (arith, low))
+      | inr e ↦ rw e (within-high (suc t) (size t) quorum (rw e at h))
     ]
 
 -- what the code's tests of the quorum come to

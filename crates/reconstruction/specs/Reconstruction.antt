@@ -1,5 +1,5 @@
--- Reconstruction (document 01: opening). It goes in two halves: votes from shares, and what votes and share words open to. The votes
--- are counted by their kinds too (document 02, W-204).
+-- Reconstruction (document 01: opening) for a day (document 02, W-205). It goes in two halves: votes from shares, and what votes and share
+-- words open to. The votes are counted by their kinds too (document 02, W-204).
 -- Assumes nothing.
 use Prim.Native.Nat.{ℕ, suc, _+_, _*_}
 use mathlib.Core.Bool.{Bool, cond, _||_, not}
@@ -11,7 +11,7 @@ use Rattle.lists.specs.Tabulate.{tab}
 use Rattle.lists.specs.Checks.{Check, _unless_, checked, within}
 use Rattle.polynomial.specs.Polynomial.{value}
 use Rattle.members.specs.Members.{isThreshold, size, ownPoints, isSet, card}
-use Rattle.shares.specs.Layout.{isLength, width, shareWord}
+use Rattle.shares.specs.Layout.{isLength, isDay, width, shareWord}
 use Rattle.voting.specs.Votes.{usable, voteRows, Pairs, noPairs, pairs}
 use Rattle.pruning.specs.Pruning.{survivors}
 use Rattle.decoding.specs.Decoding.{agreeing, nth, find}
@@ -63,18 +63,19 @@ unfoldable pub turnedAway : ℕ → ℕ → Answered
 turnedAway d k = record { opened = unopened d 0 k; pairs = noPairs }
 
 -- the checks before the votes, in their order
-abbrev pub checks : ℕ → ℕ → ℕ → ℕ → List ℕ → List Check
-checks t d present quorum words =
+abbrev pub checks : ℕ → ℕ → ℕ → ℕ → ℕ → List ℕ → List Check
+checks t d day present quorum words =
     1 unless isThreshold t
     ∷ 2 unless isLength d
+    ∷ 32 unless isDay day
     ∷ 11 unless eqb (length words) (size t * width t d)
     ∷ 12 unless isSet (size t) present
     ∷ 13 unless isQuorum t quorum
     ∷ []
 
 -- the secret buffer has d words
-unfoldable pub reconstruct : ℕ → ℕ → ℕ → ℕ → List ℕ → Answered
-reconstruct t d present quorum words =
+unfoldable pub reconstruct : ℕ → ℕ → ℕ → ℕ → ℕ → List ℕ → Answered
+reconstruct t d day present quorum words =
     let able : ℕ = usable t d present words in
-    let opened : Opened = finish (ownPoints t) t d quorum able (voteRows t d able words) (shareWord t d words) in
-    checked (turnedAway d) (checks t d present quorum words) (record { opened = opened; pairs = pairs t d able words })
+    let opened : Opened = finish (ownPoints t) t d quorum able (voteRows t d day able words) (shareWord t d words) in
+    checked (turnedAway d) (checks t d day present quorum words) (record { opened = opened; pairs = pairs t d day able words })

@@ -1,4 +1,4 @@
-// Reconstruction (document 01: opening): shares to the secret.
+// Reconstruction (document 01: opening): shares to the secret, for a day.
 use shares::Shape;
 use voting::Pairs;
 ghost use mathlib.Core.Path.{_≡_};
@@ -245,9 +245,10 @@ pub fn open_voted(
     open_all(s, shares, survived, secret)
 }
 
-// Opening after its first five checks: the usable members, their votes, and the second half.
+// Opening after its checks: the usable members, their votes, and the second half.
 fn open_by_votes(
     s: Shape,
+    day: u16,
     present: u32,
     quorum: u16,
     rows: &mut [u32],
@@ -256,10 +257,10 @@ fn open_by_votes(
 ) -> Reconstructed
     requires { ⌜ Room s (now shares) ⌝ }
     requires { ⌜ (length (now rows) ≡ s .n) × (length (now secret) ≡ s .d) ⌝ }
-    ensures { λ r. ⌜ answeredOf r (now (secret .exit)) ≡ byShares s present quorum (now (shares .entry)) ⌝ }
+    ensures { λ r. ⌜ answeredOf r (now (secret .exit)) ≡ byShares s day present quorum (now (shares .entry)) ⌝ }
 {
     let able = voting::usable_members(s, present, shares);
-    let pairs = voting::fill_rows(s, able, shares, rows);
+    let pairs = voting::fill_rows(s, day, able, shares, rows);
     Reconstructed {
         outcome: open_voted(s, quorum, able, rows, shares, secret),
         pairs,
@@ -269,6 +270,7 @@ fn open_by_votes(
 // The same, with room for the vote rows.
 fn open_shares(
     s: Shape,
+    day: u16,
     present: u32,
     quorum: u16,
     shares: &[u16],
@@ -276,11 +278,11 @@ fn open_shares(
 ) -> Reconstructed
     requires { ⌜ Room s (now shares) ⌝ }
     requires { ⌜ length (now secret) ≡ s .d ⌝ }
-    ensures { λ r. ⌜ answeredOf r (now (secret .exit)) ≡ byShares s present quorum (now (shares .entry)) ⌝ }
+    ensures { λ r. ⌜ answeredOf r (now (secret .exit)) ≡ byShares s day present quorum (now (shares .entry)) ⌝ }
 {
     let n = s.n;
     let mut rows = [0u32; 31];
-    open_by_votes(s, present, quorum, &mut rows[..n], shares, secret)
+    open_by_votes(s, day, present, quorum, &mut rows[..n], shares, secret)
 }
 
 // A refusal before the votes: nothing is counted.
@@ -293,15 +295,16 @@ fn turn_away(secret: &mut [u16], number: u16) -> Reconstructed
     }
 }
 
-// Opens the shares of the present members into the secret buffer; refusals 1, 2, 11, 12, 13, 14, 15 and 16.
+// Opens the shares of the present members, dealt for the day, into the secret buffer; refusals 1, 2, 32, 11, 12, 13, 14, 15 and 16.
 pub fn reconstruct(
     t: usize,
+    day: u16,
     present: u32,
     quorum: u16,
     shares: &[u16],
     secret: &mut [u16],
 ) -> Reconstructed
-    ensures { λ r. ⌜ answeredOf r (now (secret .exit)) ≡ reconstructOf t (length (now (secret .entry))) present quorum (now (shares .entry)) ⌝ }
+    ensures { λ r. ⌜ answeredOf r (now (secret .exit)) ≡ reconstructOf t (length (now (secret .entry))) day present quorum (now (shares .entry)) ⌝ }
 {
     let d = secret.len();
     if !members::threshold(t) {
@@ -309,6 +312,9 @@ pub fn reconstruct(
     }
     if !lists::within(1, 64, d) {
         return turn_away(secret, 2);
+    }
+    if !shares::is_day(day) {
+        return turn_away(secret, 32);
     }
     let s = shares::shape_of(t, d);
     if shares.len() != s.n * s.width {
@@ -320,5 +326,5 @@ pub fn reconstruct(
     if !is_quorum(s, quorum) {
         return turn_away(secret, 13);
     }
-    open_shares(s, present, quorum, shares, secret)
+    open_shares(s, day, present, quorum, shares, secret)
 }

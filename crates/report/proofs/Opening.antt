@@ -20,21 +20,21 @@ use Rattle.report.specs.Report.{wordLine, printOpened}
 use Rattle.report.specs.Internal.Printing.{wordLines, opening}
 use Rattle.reconstruction.proofs.Numbers.{opened-fits}
 
-module _ (t d present quorum : ℕ) (words : List ℕ) where
-  module _ (secret : List ℕ) (r : Reconstructed) (answers : answeredOf r secret ≡ reconstruct t d present quorum words) where
-    answered : (o : Outcome) → r .outcome ≡ o → answerOf o secret ≡ reconstruct t d present quorum words .opened
+module _ (t d day present quorum : ℕ) (words : List ℕ) where
+  module _ (secret : List ℕ) (r : Reconstructed) (answers : answeredOf r secret ≡ reconstruct t d day present quorum words) where
+    answered : (o : Outcome) → r .outcome ≡ o → answerOf o secret ≡ reconstruct t d day present quorum words .opened
     answered o e = ap (λ (o : Outcome). answerOf o secret) (sym e) ∙ ap (λ (a : Answered). a .opened) answers
 
     pub prints-open : (survived agreed : ℕ) → r .outcome ≡ Open survived agreed → length secret ≡ d
-        → line (ascii "OPEN") (survived ∷ agreed ∷ []) ++ wordLines secret ≡ opening t d present quorum words
+        → line (ascii "OPEN") (survived ∷ agreed ∷ []) ++ wordLines secret ≡ opening t d day present quorum words
     unfolding opening printOpened wordLines
     prints-open survived agreed e long =
         ap (λ (n : ℕ). line (ascii "OPEN") (survived ∷ agreed ∷ []) ++ concat (tab n (wordLine secret))) long
         ∙ ap (printOpened d) (answered (Open survived agreed) e)
 
-    pub prints-refused : (number survived : ℕ) → r .outcome ≡ Refused number survived → line (ascii "REFUSED") (number ∷ survived ∷ []) ≡ opening t d present quorum words
+    pub prints-refused : (number survived : ℕ) → r .outcome ≡ Refused number survived → line (ascii "REFUSED") (number ∷ survived ∷ []) ≡ opening t d day present quorum words
     unfolding opening printOpened
-    prints-refused zero survived e = absurd (omega (arith, opened-fits t d present quorum words, ap (λ (o : Opened). o .number) (answered (Refused 0 survived) e)))
+    prints-refused zero survived e = absurd (omega (arith, opened-fits t d day present quorum words, ap (λ (o : Opened). o .number) (answered (Refused 0 survived) e)))
     prints-refused (suc k) survived e =
         sym
         (ap

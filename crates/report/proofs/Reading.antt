@@ -1,6 +1,6 @@
 -- What the reader's answer prints.
 -- Assumes nothing.
-use mathlib.Core.Path.{_≡_, refl, sym, ap, ap₂, _∙_}
+use mathlib.Core.Path.{_≡_, refl, sym, ap, _∙_}
 use mathlib.Core.Bool.{Bool, true, false}
 use mathlib.Core.List.{List, [], _∷_}
 use Prim.Native.Nat.{ℕ, zero, suc, _*_, _≤_}
@@ -30,14 +30,15 @@ module _ (text words : List ℕ) {len : ℕ} {r : Outcome} (full : len ≡ capac
   answered : (o : Outcome) → r ≡ o → answerOf o words ≡ read text capacity
   answered o e = ap (λ (o : Outcome). answerOf o words) (sym e) ∙ answers ∙ ap (read text) full
 
-  module _ (t d quorum present : ℕ) (e : r ≡ Accepted t d quorum present) where
+  module _ (t d quorum day present : ℕ) (e : r ≡ Accepted t d quorum day present) where
     pub accepted-range : InRange t d
     unfolding answerOf
-    accepted-range = rw (← answered (Accepted t d quorum present) e) at (sound capacity text) .ranged refl
+    accepted-range = rw (← answered (Accepted t d quorum day present) e) at (sound capacity text) .ranged refl
 
-    pub prints-accepted : opening t d present quorum (take (size t * width t d) words) ≡ report text
+    pub prints-accepted : (s : Shape) → s ≡ shapeOf t d → opening (s .t) (s .d) day present quorum (take (s .n * s .width) words) ≡ report text
     unfolding opening report printRead answerOf
-    prints-accepted = ap printRead (answered (Accepted t d quorum present) e)
+    prints-accepted s es =
+        ap (λ (x : Shape). opening (x .t) (x .d) day present quorum (take (x .n * x .width) words)) es ∙ ap printRead (answered (Accepted t d quorum day present) e)
 
   pub prints-unread : (number : ℕ) → r ≡ Refused number → line (ascii "REFUSED") (number ∷ 0 ∷ []) ≡ report text
   unfolding report printRead answerOf
@@ -46,17 +47,14 @@ module _ (text words : List ℕ) {len : ℕ} {r : Outcome} (full : len ≡ capac
       sym
       (ap
       (λ (b : Bool). elim b [
-        | true ↦ printOpened 0 (reconstruct 0 0 0 0 (take (size 0 * width 0 0) words) .opened)
+        | true ↦ printOpened 0 (reconstruct 0 0 0 0 0 (take (size 0 * width 0 0) words) .opened)
         | false ↦ line (ascii "REFUSED") (suc k ∷ 0 ∷ [])
       ])
       (ne-eqb (suc k) 0 (suc-ne-zero k)))
       ∙ ap printRead (answered (Refused (suc k)) e)
 
--- the front of a buffer, as long as the shares of a shape are, with as many words of a secret as it says
-pub opens-front : (s : Shape) (t d present quorum : ℕ) (words secret : List ℕ) {l m : List ℕ} {end : ℕ} → s ≡ shapeOf t d → d ≤ length secret
-    → Written l 0 (opening t (length (take d secret)) present quorum (take (s .n * s .width) words)) m end
-    → Written l 0 (opening t d present quorum (take (size t * width t d) words)) m end
-opens-front s t d present quorum words secret e h w =
-    written-as
-    (ap₂ (λ (n : ℕ) (x : Shape). opening t n present quorum (take (x .n * x .width) words)) (length-take-le d secret h) e)
-    w
+-- as many words of a secret as a shape says
+pub opens-front : (s : Shape) (day present quorum : ℕ) (words secret : List ℕ) {l m : List ℕ} {end : ℕ} → s .d ≤ length secret
+    → Written l 0 (opening (s .t) (length (take (s .d) secret)) day present quorum words) m end
+    → Written l 0 (opening (s .t) (s .d) day present quorum words) m end
+opens-front s day present quorum words secret h w = written-as (ap (λ (n : ℕ). opening (s .t) n day present quorum words) (length-take-le (s .d) secret h)) w

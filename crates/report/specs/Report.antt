@@ -26,11 +26,11 @@ printOpened d a =
       | false ↦ line (ascii "REFUSED") (a .number ∷ a .survivors ∷ [])
     ]
 
--- what the reader's answer prints: its shares are opened, or its refusal is told
+-- what the reader's answer prints: its shares are opened for its day, or its refusal is told
 unfoldable pub printRead : HandIn → List ℕ
 printRead h =
     elim (eqb (h .number) 0) [
-      | true ↦ printOpened (h .d) (reconstruct (h .t) (h .d) (h .present) (h .quorum) (take (size (h .t) * width (h .t) (h .d)) (h .words)) .opened)
+      | true ↦ printOpened (h .d) (reconstruct (h .t) (h .d) (h .day) (h .present) (h .quorum) (take (size (h .t) * width (h .t) (h .d)) (h .words)) .opened)
       | false ↦ line (ascii "REFUSED") (h .number ∷ 0 ∷ [])
     ]
 

@@ -1,12 +1,12 @@
 // What the program `opening` prints for a text: the two answers, and the whole.
+use shares::Shape;
 ghost use mathlib.Core.Path.{_≡_};
 ghost use mathlib.Core.List.{[], _∷_, _++_};
 ghost use Prim.Native.Nat.{_+_, _*_, _≤_};
 ghost use lib.ListN.{length, take};
 ghost use Rattle.lists.specs.Ascii.{ascii};
-ghost use Rattle.members.specs.Members.{size};
-ghost use Rattle.shares.specs.Layout.{width, capacity};
-ghost use Rattle.shares.specs.Internal.Shape.{InRange};
+ghost use Rattle.shares.specs.Layout.{capacity};
+ghost use Rattle.shares.specs.Internal.Shape.{Station};
 ghost use Rattle.text.specs.Lines.{line};
 ghost use Rattle.text.specs.Internal.Writing.{Written};
 ghost use Rattle.report.specs.Report.{report, Reported};
@@ -62,6 +62,7 @@ fn put_refused(number: u16, survivors: u32, output: &mut [u8]) -> usize
 // Opens shares into a secret buffer, and prints the answer.
 fn open_shares(
     t: usize,
+    day: u16,
     present: u32,
     quorum: u16,
     shares: &[u16],
@@ -69,9 +70,9 @@ fn open_shares(
     output: &mut [u8],
 ) -> usize
     requires { ⌜ (length (now secret) ≤ 64) × (1024 ≤ length (now output)) ⌝ }
-    ensures { λ r. ⌜ Written (now (output .entry)) 0 (opening t (length (now (secret .entry))) present quorum (now (shares .entry))) (now (output .exit)) r ⌝ }
+    ensures { λ r. ⌜ Written (now (output .entry)) 0 (opening t (length (now (secret .entry))) day present quorum (now (shares .entry))) (now (output .exit)) r ⌝ }
 {
-    let answer = reconstruction::reconstruct(t, present, quorum, shares, secret);
+    let answer = reconstruction::reconstruct(t, day, present, quorum, shares, secret);
     let outcome = answer.outcome;
     match outcome {
         reconstruction::Outcome::Open {
@@ -86,22 +87,23 @@ fn open_shares(
 
 // Opens the shares of a text that was read: as many words at the front of the reader's buffer as n shares have.
 fn open_words(
-    t: usize,
-    d: usize,
+    s: Shape,
     quorum: u16,
+    day: u16,
     present: u32,
     words: &[u16],
     secret: &mut [u16],
     output: &mut [u8],
 ) -> usize
-    requires { ⌜ InRange t d ⌝ }
+    requires { ⌜ Station s ⌝ }
     requires { ⌜ (length (now words) ≡ capacity) × ((length (now secret) ≡ 64) × (1024 ≤ length (now output))) ⌝ }
-    ensures { λ r. ⌜ Written (now (output .entry)) 0 (opening t d present quorum (take (size t * width t d) (now (words .entry)))) (now (output .exit)) r ⌝ }
+    ensures { λ r. ⌜ Written (now (output .entry)) 0 (opening (s .t) (s .d) day present quorum (take (s .n * s .width) (now (words .entry)))) (now (output .exit)) r ⌝ }
 {
-    let s = shares::shape_of(t, d);
     let count = s.n * s.width;
+    let d = s.d;
     open_shares(
-        t,
+        s.t,
+        day,
         present,
         quorum,
         &words[..count],
@@ -120,8 +122,12 @@ fn print_text(text: &[u8], words: &mut [u16], secret: &mut [u16], output: &mut [
             t,
             d,
             quorum,
+            day,
             present,
-        } => open_words(t, d, quorum, present, words, secret, output),
+        } => {
+            let s = shares::shape_of(t, d);
+            open_words(s, quorum, day, present, words, secret, output)
+        }
         handin::Outcome::Refused(number) => put_refused(number, 0, output),
     }
 }

@@ -38,13 +38,13 @@ use Rattle.handin.proofs.WriterChecks.{written-fits}
 use Rattle.rutzebam.specs.Calls.{dealt, pairsIn, opened, pruned, decoded, handIn, handInText}
 use Rattle.rutzebam.proofs.Numbers.{refused-as}
 
-module _ (t : ℕ) (secret random buffer shares : List ℕ) {r : dealing-outcome.Outcome} (answers : dealing.answerOf r shares ≡ deal t secret random buffer) where
-  pub deals : r ≡ dealing-case.Dealt → dealt 0 shares ≡ deal t secret random buffer
+module _ (t day : ℕ) (secret random buffer shares : List ℕ) {r : dealing-outcome.Outcome} (answers : dealing.answerOf r shares ≡ deal t day secret random buffer) where
+  pub deals : r ≡ dealing-case.Dealt → dealt 0 shares ≡ deal t day secret random buffer
   deals e = ap (λ (o : dealing-outcome.Outcome). dealing.answerOf o shares) (sym e) ∙ answers
 
-  pub deal-refuses : (k : ℕ) → r ≡ dealing-case.Refused k → dealt k shares ≡ deal t secret random buffer
+  pub deal-refuses : (k : ℕ) → r ≡ dealing-case.Refused k → dealt k shares ≡ deal t day secret random buffer
   deal-refuses k e =
-      refused-as (λ a. a .number) (λ n. dealt n shares) (λ n. refl) k (deal t secret random buffer) (dealt-fits t secret random buffer)
+      refused-as (λ a. a .number) (λ n. dealt n shares) (λ n. refl) k (deal t day secret random buffer) (dealt-fits t day secret random buffer)
       (ap (λ (o : dealing-outcome.Outcome). dealing.answerOf o shares) (sym e) ∙ answers)
 
 -- a list of three, written over place by place
@@ -55,22 +55,22 @@ three-stored (x ∷ y ∷ []) e a b c = absurd (omega (arith, e))
 three-stored (x ∷ y ∷ z ∷ []) e a b c = refl
 three-stored (x ∷ y ∷ z ∷ w ∷ l) e a b c = absurd (omega (arith, e))
 
-module _ (t d present quorum : ℕ) (words secret : List ℕ) (r : Reconstructed) (answers : reconstruction.answeredOf r secret ≡ reconstruct t d present quorum words)
+module _ (t d day present quorum : ℕ) (words secret : List ℕ) (r : Reconstructed) (answers : reconstruction.answeredOf r secret ≡ reconstruct t d day present quorum words)
     (pairs : List ℕ) (stored : pairs ≡ r .pairs .accepted ∷ r .pairs .mismatched ∷ r .pairs .unread ∷ []) where
   -- an answer told by its number and its places
   told : (o : reconstruction-outcome.Outcome) → r .outcome ≡ o
-      → (let a : Answered = record { opened = reconstruction.answerOf o secret; pairs = pairsIn pairs } in a) ≡ reconstruct t d present quorum words
+      → (let a : Answered = record { opened = reconstruction.answerOf o secret; pairs = pairsIn pairs } in a) ≡ reconstruct t d day present quorum words
   told o e =
       let back : o ≡ r .outcome = sym e in
       (λ i. record { opened = reconstruction.answerOf (back i) secret; pairs = pairsIn (stored i) }) ∙ answers
 
-  pub opens : (survived agreed : ℕ) → r .outcome ≡ reconstruction-case.Open survived agreed → opened 0 survived agreed pairs secret ≡ reconstruct t d present quorum words
+  pub opens : (survived agreed : ℕ) → r .outcome ≡ reconstruction-case.Open survived agreed → opened 0 survived agreed pairs secret ≡ reconstruct t d day present quorum words
   opens survived agreed e = told (reconstruction-case.Open survived agreed) e
 
-  pub open-refuses : (k survived : ℕ) → r .outcome ≡ reconstruction-case.Refused k survived → opened k survived 0 pairs secret ≡ reconstruct t d present quorum words
+  pub open-refuses : (k survived : ℕ) → r .outcome ≡ reconstruction-case.Refused k survived → opened k survived 0 pairs secret ≡ reconstruct t d day present quorum words
   open-refuses k survived e =
-      refused-as (λ a. a .opened .number) (λ n. opened n survived 0 pairs secret) (λ n. refl) k (reconstruct t d present quorum words)
-      (opened-fits t d present quorum words) (told (reconstruction-case.Refused k survived) e)
+      refused-as (λ a. a .opened .number) (λ n. opened n survived 0 pairs secret) (λ n. refl) k (reconstruct t d day present quorum words)
+      (opened-fits t d day present quorum words) (told (reconstruction-case.Refused k survived) e)
 
 module _ (t : ℕ) (rows : List ℕ) {r : Survivors} (answers : pruning.answerOf r ≡ prune t rows) where
   pub prunes : (set : ℕ) → r ≡ survivors.Left set → pruned 0 set ≡ prune t rows
@@ -90,23 +90,23 @@ module _ (t : ℕ) (values : List ℕ) (set len : ℕ) (buffer : List ℕ) {r : 
       (ap (λ (o : decoding-outcome.Outcome). decoding.answerOf o buffer) (sym e) ∙ answers)
 
 module _ (text : List ℕ) (len : ℕ) (words : List ℕ) {r : handin-outcome.Outcome} (answers : handin.answerOf r words ≡ read text len) where
-  pub reads : (t d quorum present : ℕ) → r ≡ handin-case.Accepted t d quorum present → handIn 0 t d quorum present words ≡ read text len
+  pub reads : (t d quorum day present : ℕ) → r ≡ handin-case.Accepted t d quorum day present → handIn 0 t d quorum day present words ≡ read text len
   unfolding handin.answerOf
-  reads t d quorum present e = ap (λ (o : handin-outcome.Outcome). handin.answerOf o words) (sym e) ∙ answers
+  reads t d quorum day present e = ap (λ (o : handin-outcome.Outcome). handin.answerOf o words) (sym e) ∙ answers
 
-  pub read-refuses : (k : ℕ) → r ≡ handin-case.Refused k → handIn k 0 0 0 0 words ≡ read text len
+  pub read-refuses : (k : ℕ) → r ≡ handin-case.Refused k → handIn k 0 0 0 0 0 words ≡ read text len
   unfolding handin.answerOf
   read-refuses k e =
-      refused-as (λ a. a .number) (λ n. handIn n 0 0 0 0 words) (λ n. refl) k (read text len) (sound len text .fits)
+      refused-as (λ a. a .number) (λ n. handIn n 0 0 0 0 0 words) (λ n. refl) k (read text len) (sound len text .fits)
       (ap (λ (o : handin-outcome.Outcome). handin.answerOf o words) (sym e) ∙ answers)
 
-module _ (t d quorum present : ℕ) (words before after : List ℕ) {r : Wrote} (answers : handin.writtenOf r after ≡ write t d quorum present words before) where
-  pub writes : (count : ℕ) → r ≡ wrote.Bytes count → handInText 0 count after ≡ write t d quorum present words before
+module _ (t d quorum day present : ℕ) (words before after : List ℕ) {r : Wrote} (answers : handin.writtenOf r after ≡ write t d quorum day present words before) where
+  pub writes : (count : ℕ) → r ≡ wrote.Bytes count → handInText 0 count after ≡ write t d quorum day present words before
   unfolding handin.writtenOf
   writes count e = ap (λ (o : Wrote). handin.writtenOf o after) (sym e) ∙ answers
 
-  pub write-refuses : (k : ℕ) → r ≡ wrote.Refused k → handInText k 0 after ≡ write t d quorum present words before
+  pub write-refuses : (k : ℕ) → r ≡ wrote.Refused k → handInText k 0 after ≡ write t d quorum day present words before
   unfolding handin.writtenOf
   write-refuses k e =
-      refused-as (λ a. a .number) (λ n. handInText n 0 after) (λ n. refl) k (write t d quorum present words before)
-      (written-fits t d quorum present words before) (ap (λ (o : Wrote). handin.writtenOf o after) (sym e) ∙ answers)
+      refused-as (λ a. a .number) (λ n. handInText n 0 after) (λ n. refl) k (write t d quorum day present words before)
+      (written-fits t d quorum day present words before) (ap (λ (o : Wrote). handin.writtenOf o after) (sym e) ∙ answers)

@@ -32,9 +32,9 @@ pruned number survivors = record { number = number; survivors = survivors }
 abbrev pub decoded : ℕ → List ℕ → Decoded
 decoded number coefficients = record { number = number; coefficients = coefficients }
 
-abbrev pub handIn : ℕ → ℕ → ℕ → ℕ → ℕ → List ℕ → HandIn
-handIn number t d quorum present words =
-    record { number = number; t = t; d = d; quorum = quorum; present = present; words = words }
+abbrev pub handIn : ℕ → ℕ → ℕ → ℕ → ℕ → ℕ → List ℕ → HandIn
+handIn number t d quorum day present words =
+    record { number = number; t = t; d = d; quorum = quorum; day = day; present = present; words = words }
 
 abbrev pub handInText : ℕ → ℕ → List ℕ → HandInText
 handInText number count buffer = record { number = number; count = count; buffer = buffer }

@@ -14,10 +14,16 @@ ghost use Rattle.rutzebam.specs.Calls.{dealt, opened, pruned, decoded, h
 
 // Dealing.
 #[no_mangle]
-pub extern "C" fn rutzebam_deal(t: usize, secret: &[u16], random: &[u16], shares: &mut [u16]) -> u16
-    ensures { λ r. ⌜ dealt r (now (shares .exit)) ≡ deal t (now (secret .entry)) (now (random .entry)) (now (shares .entry)) ⌝ }
+pub extern "C" fn rutzebam_deal(
+    t: usize,
+    day: u16,
+    secret: &[u16],
+    random: &[u16],
+    shares: &mut [u16],
+) -> u16
+    ensures { λ r. ⌜ dealt r (now (shares .exit)) ≡ deal t day (now (secret .entry)) (now (random .entry)) (now (shares .entry)) ⌝ }
 {
-    match dealing::deal(t, secret, random, shares) {
+    match dealing::deal(t, day, secret, random, shares) {
         dealing::Outcome::Dealt => 0,
         dealing::Outcome::Refused(number) => number,
     }
@@ -37,6 +43,7 @@ fn store_pairs(given: voting::Pairs, pairs: &mut [u16])
 #[no_mangle]
 pub extern "C" fn rutzebam_open(
     t: usize,
+    day: u16,
     present: u32,
     quorum: u16,
     shares: &[u16],
@@ -45,9 +52,9 @@ pub extern "C" fn rutzebam_open(
     agreeing: &mut u32,
     pairs: &mut [u16; 3],
 ) -> u16
-    ensures { λ r. ⌜ opened r (now (survivors .exit)) (now (agreeing .exit)) (now (pairs .exit)) (now (secret .exit)) ≡ reconstruct t (length (now (secret .entry))) present quorum (now (shares .entry)) ⌝ }
+    ensures { λ r. ⌜ opened r (now (survivors .exit)) (now (agreeing .exit)) (now (pairs .exit)) (now (secret .exit)) ≡ reconstruct t (length (now (secret .entry))) day present quorum (now (shares .entry)) ⌝ }
 {
-    let answer = reconstruction::reconstruct(t, present, quorum, shares, secret);
+    let answer = reconstruction::reconstruct(t, day, present, quorum, shares, secret);
     store_pairs(answer.pairs, pairs);
     let outcome = answer.outcome;
     match outcome {
@@ -119,20 +126,23 @@ pub extern "C" fn rutzebam_read(
     t: &mut usize,
     d: &mut usize,
     quorum: &mut u16,
+    day: &mut u16,
     present: &mut u32,
 ) -> u16
-    ensures { λ r. ⌜ handIn r (now (t .exit)) (now (d .exit)) (now (quorum .exit)) (now (present .exit)) (now (words .exit)) ≡ read (now (text .entry)) (length (now (words .entry))) ⌝ }
+    ensures { λ r. ⌜ handIn r (now (t .exit)) (now (d .exit)) (now (quorum .exit)) (now (day .exit)) (now (present .exit)) (now (words .exit)) ≡ read (now (text .entry)) (length (now (words .entry))) ⌝ }
 {
     match handin::read(text, words) {
         handin::Outcome::Accepted {
             t: threshold,
             d: count,
             quorum: asked,
+            day: dealt_for,
             present: met,
         } => {
             *t = threshold;
             *d = count;
             *quorum = asked;
+            *day = dealt_for;
             *present = met;
             0
         }
@@ -140,6 +150,7 @@ pub extern "C" fn rutzebam_read(
             *t = 0;
             *d = 0;
             *quorum = 0;
+            *day = 0;
             *present = 0;
             number
         }
@@ -152,14 +163,15 @@ pub extern "C" fn rutzebam_write(
     t: usize,
     d: usize,
     quorum: u16,
+    day: u16,
     present: u32,
     shares: &[u16],
     text: &mut [u8],
     count: &mut usize,
 ) -> u16
-    ensures { λ r. ⌜ handInText r (now (count .exit)) (now (text .exit)) ≡ write t d quorum present (now (shares .entry)) (now (text .entry)) ⌝ }
+    ensures { λ r. ⌜ handInText r (now (count .exit)) (now (text .exit)) ≡ write t d quorum day present (now (shares .entry)) (now (text .entry)) ⌝ }
 {
-    match handin::write(t, d, quorum, present, shares, text) {
+    match handin::write(t, d, quorum, day, present, shares, text) {
         handin::Wrote::Bytes(length) => {
             *count = length;
             0

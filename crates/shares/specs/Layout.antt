@@ -2,7 +2,7 @@
 -- Assumes nothing.
 use Prim.Native.Nat.{ℕ, _+_, _*_}
 use mathlib.Core.Bool.{Bool}
-use mathlib.Core.List.{List, _++_}
+use mathlib.Core.List.{List, _∷_, _++_}
 use lib.ListN.{getD}
 use Rattle.lists.specs.Checks.{within}
 use Rattle.lists.specs.Tabulate.{tab}
@@ -11,6 +11,14 @@ use Rattle.members.specs.Members.{size}
 -- d is 1 to 64
 abbrev pub isLength : ℕ → Bool
 isLength d = within 1 64 d
+
+-- a day is 1 to 65520 (document 02, W-205)
+abbrev pub isDay : ℕ → Bool
+isDay day = within 1 65520 day
+
+-- what the tags of a share are tags of: the day, then the share words
+abbrev pub tagged : ℕ → List ℕ → List ℕ
+tagged day words = day ∷ words
 
 -- how many words a share has
 unfoldable pub width : ℕ → ℕ → ℕ

@@ -1,8 +1,15 @@
-// A station's shape, and where the words of its shares stand in a buffer.
+// A station's shape, where the words of its shares stand in a buffer, and its days.
 ghost use mathlib.Core.Path.{_≡_};
 ghost use Prim.Native.Nat.{_*_, _<_};
-ghost use Rattle.shares.specs.Layout.{wordPlace, tagPlace, keyPlace};
+ghost use Rattle.shares.specs.Layout.{isDay, wordPlace, tagPlace, keyPlace};
 ghost use Rattle.shares.specs.Internal.Shape.{InRange, shapeOf, Station, At};
+
+// A day is 1 to 65520.
+pub fn is_day(day: u16) -> bool
+    ensures { λ r. ⌜ r ≡ isDay day ⌝ }
+{
+    lists::within(1, 65520, day as usize)
+}
 
 // t, d, how many members there are, and how many words a share has.
 pub struct Shape {

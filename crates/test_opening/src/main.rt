@@ -22,13 +22,13 @@ fn too_long() {
 // Opened: the sample, two members by quorum 2, one survivor that does not agree, two words.
 fn opened() {
     prints(
-        b"D\t1\t1\t0\nP\t1\t253\t254\t507\t760\t1\t1\t1\t2\t1\t3\nP\t2\t256\t258\t514\t770\t2\t1\t2\t2\t2\t3\nP\t3\t300\t262\t521\t780\t3\t1\t3\t2\t3\t3\n",
+        b"D\t1\t1\t0\t1\nP\t1\t253\t255\t1015\t2281\t1\t1\t1\t2\t1\t3\nP\t2\t256\t259\t1028\t2309\t2\t1\t2\t2\t2\t3\nP\t3\t300\t263\t1041\t2337\t3\t1\t3\t2\t3\t3\n",
     );
     prints(
-        b"D\t1\t1\t2\nP\t2\t256\t258\t514\t770\t2\t1\t2\t2\t2\t3\nP\t1\t253\t254\t507\t760\t1\t1\t1\t2\t1\t3\n",
+        b"D\t1\t1\t2\t1\nP\t2\t256\t259\t1028\t2309\t2\t1\t2\t2\t2\t3\nP\t1\t253\t255\t1015\t2281\t1\t1\t1\t2\t1\t3\n",
     );
     prints(
-        b"D\t2\t2\t0\n\
+        b"D\t2\t2\t0\t1\n\
           P\t1\t0\t0\t0\t0\t0\t0\t0\t0\t0\t0\t0\t0\t0\t0\t0\t0\t0\n\
           P\t2\t0\t0\t0\t0\t0\t0\t0\t0\t0\t0\t0\t0\t0\t0\t0\t0\t0\n\
           P\t3\t0\t0\t0\t0\t0\t0\t0\t0\t0\t0\t0\t0\t0\t0\t0\t0\t0\n\
@@ -36,36 +36,36 @@ fn opened() {
           P\t5\t0\t0\t0\t0\t0\t0\t0\t0\t0\t0\t0\t0\t0\t0\t0\t0\t0\n",
     );
     prints(
-        b"D\t1\t2\t2\nP\t1\t5\t65520\t0\t0\t0\t0\t0\t0\t0\t0\t0\nP\t3\t5\t65520\t0\t0\t0\t0\t0\t0\t0\t0\t0\n",
+        b"D\t1\t2\t2\t1\nP\t1\t5\t65520\t0\t0\t0\t0\t0\t0\t0\t0\t0\nP\t3\t5\t65520\t0\t0\t0\t0\t0\t0\t0\t0\t0\n",
     );
 }
 
 // Refused with 13 and 14.
 fn unmet() {
-    prints(b"D\t1\t1\t1\n");
+    prints(b"D\t1\t1\t1\t1\n");
     prints(
-        b"D\t1\t1\t4\nP\t1\t253\t254\t507\t760\t1\t1\t1\t2\t1\t3\nP\t2\t256\t258\t514\t770\t2\t1\t2\t2\t2\t3\nP\t3\t259\t262\t521\t780\t3\t1\t3\t2\t3\t3\n",
+        b"D\t1\t1\t4\t1\nP\t1\t253\t255\t1015\t2281\t1\t1\t1\t2\t1\t3\nP\t2\t256\t259\t1028\t2309\t2\t1\t2\t2\t2\t3\nP\t3\t259\t263\t1041\t2337\t3\t1\t3\t2\t3\t3\n",
     );
-    prints(b"D\t1\t1\t0\n");
-    prints(b"D\t1\t1\t0\nP\t1\t253\t254\t507\t760\t1\t1\t1\t2\t1\t3\n");
+    prints(b"D\t1\t1\t0\t1\n");
+    prints(b"D\t1\t1\t0\t1\nP\t1\t253\t255\t1015\t2281\t1\t1\t1\t2\t1\t3\n");
     prints(
-        b"D\t1\t1\t0\nP\t2\t256\t258\t514\t770\t2\t1\t2\t2\t2\t3\nP\t1\t253\t254\t507\t760\t1\t1\t1\t2\t1\t3\n",
+        b"D\t1\t1\t0\t1\nP\t2\t256\t259\t1028\t2309\t2\t1\t2\t2\t2\t3\nP\t1\t253\t255\t1015\t2281\t1\t1\t1\t2\t1\t3\n",
     );
     prints(
-        b"D\t1\t1\t2\nP\t1\t253\t254\t507\t760\t1\t1\t1\t2\t1\t3\nP\t2\t256\t258\t514\t770\t2\t1\t2\t2\t2\t65521\n",
+        b"D\t1\t1\t2\t1\nP\t1\t253\t255\t1015\t2281\t1\t1\t1\t2\t1\t3\nP\t2\t256\t259\t1028\t2309\t2\t1\t2\t2\t2\t65521\n",
     );
 }
 
 // Refused with 15 and 16.
 fn unopened() {
     prints(
-        b"D\t1\t1\t2\nP\t1\t253\t254\t507\t760\t1\t1\t1\t2\t1\t3\nP\t2\t256\t0\t514\t770\t2\t1\t2\t2\t2\t3\n",
+        b"D\t1\t1\t2\t1\nP\t1\t253\t255\t1015\t2281\t1\t1\t1\t2\t1\t3\nP\t2\t256\t0\t1028\t2309\t2\t1\t2\t2\t2\t3\n",
     );
     prints(
-        b"D\t1\t1\t0\nP\t1\t253\t0\t0\t0\t0\t0\t0\t0\t0\t0\nP\t2\t256\t0\t0\t0\t0\t0\t0\t0\t0\t0\nP\t3\t300\t0\t0\t0\t0\t0\t0\t0\t0\t0\n",
+        b"D\t1\t1\t0\t1\nP\t1\t253\t0\t0\t0\t0\t0\t0\t0\t0\t0\nP\t2\t256\t0\t0\t0\t0\t0\t0\t0\t0\t0\nP\t3\t300\t0\t0\t0\t0\t0\t0\t0\t0\t0\n",
     );
     prints(
-        b"D\t2\t2\t0\n\
+        b"D\t2\t2\t0\t1\n\
           P\t1\t0\t0\t0\t0\t0\t0\t0\t0\t0\t0\t0\t0\t0\t0\t0\t0\t0\n\
           P\t2\t0\t0\t0\t0\t0\t0\t0\t0\t0\t0\t0\t0\t0\t0\t0\t0\t0\n\
           P\t3\t0\t0\t0\t0\t0\t0\t0\t0\t0\t0\t0\t0\t0\t0\t0\t0\t0\n\
@@ -74,13 +74,29 @@ fn unopened() {
     );
 }
 
+// Shares of another day, refused with 15; and member 3's share of day 2 beside two of day 1, opened for either.
+fn other_days() {
+    prints(
+        b"D\t1\t1\t0\t2\nP\t1\t253\t255\t1015\t2281\t1\t1\t1\t2\t1\t3\nP\t2\t256\t259\t1028\t2309\t2\t1\t2\t2\t2\t3\nP\t3\t259\t263\t1041\t2337\t3\t1\t3\t2\t3\t3\n",
+    );
+    prints(
+        b"D\t1\t1\t0\t1\nP\t1\t253\t255\t1015\t2281\t1\t1\t1\t2\t1\t3\nP\t2\t256\t259\t1028\t2309\t2\t1\t2\t2\t2\t3\nP\t3\t259\t264\t1043\t2340\t3\t1\t3\t2\t3\t3\n",
+    );
+    prints(
+        b"D\t1\t1\t0\t2\nP\t1\t253\t255\t1015\t2281\t1\t1\t1\t2\t1\t3\nP\t2\t256\t259\t1028\t2309\t2\t1\t2\t2\t2\t3\nP\t3\t259\t264\t1043\t2340\t3\t1\t3\t2\t3\t3\n",
+    );
+}
+
 // Refused with 22, 23 and 24.
 fn unread() {
     prints(b"");
-    prints(b"D\t1\t1\t0");
-    prints(b"D\t1\t1\t0\nP\t1\t253\t254\t507\t760\t1\t1\t1\t2\t1\t3\n\n");
+    prints(b"D\t1\t1\t0\t1");
+    prints(b"D\t1\t1\t0\n");
+    prints(b"D\t1\t1\t0\t0\n");
+    prints(b"D\t1\t1\t0\t65521\n");
+    prints(b"D\t1\t1\t0\t1\nP\t1\t253\t255\t1015\t2281\t1\t1\t1\t2\t1\t3\n\n");
     prints(
-        b"D\t1\t1\t0\nP\t1\t253\t254\t507\t760\t1\t1\t1\t2\t1\t3\nP\t2\t256\t258\t514\t770\t2\t1\t2\t2\t2\t3\nP\t1\t253\t254\t507\t760\t1\t1\t1\t2\t1\t3\n",
+        b"D\t1\t1\t0\t1\nP\t1\t253\t255\t1015\t2281\t1\t1\t1\t2\t1\t3\nP\t2\t256\t259\t1028\t2309\t2\t1\t2\t2\t2\t3\nP\t1\t253\t255\t1015\t2281\t1\t1\t1\t2\t1\t3\n",
     );
 }
 
@@ -90,5 +106,6 @@ fn main() {
     opened();
     unmet();
     unopened();
+    other_days();
     unread();
 }

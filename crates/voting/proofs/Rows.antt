@@ -29,29 +29,29 @@ use Rattle.voting.proofs.Counts.{one-accepted, one-mismatched, one-unre
 use Rattle.voting.proofs.Meaning.{accepts-is}
 
 -- nobody accepts a member that is not usable
-pub empty-row : (t d able : ℕ) (words : List ℕ) (i : ℕ) → has able i ≡ false → setOf (size t) (λ j. accepts t d able words j i) ≡ 0
-empty-row t d able words i e =
-    setOf-none (size t) (λ j. accepts t d able words j i)
-    (λ j l. accepts-is t d able words j i ∙ ap (λ (b : Bool). b && has able j && tagHolds t d words i j) e)
+pub empty-row : (t d day able : ℕ) (words : List ℕ) (i : ℕ) → has able i ≡ false → setOf (size t) (λ j. accepts t d day able words j i) ≡ 0
+empty-row t d day able words i e =
+    setOf-none (size t) (λ j. accepts t d day able words j i)
+    (λ j l. accepts-is t d day able words j i ∙ ap (λ (b : Bool). b && has able j && tagHolds t d day words i j) e)
 
 -- the test of one tag, as the code makes it: is the member usable, is the voter, does the tag hold
-module _ (t d able : ℕ) (words : List ℕ) (i j : ℕ) where
-  pub unusable-member : (a : Bool) → a ≡ has able i → not a ≡ true → voteOf Unread ≡ vote t d able words j i
+module _ (t d day able : ℕ) (words : List ℕ) (i j : ℕ) where
+  pub unusable-member : (a : Bool) → a ≡ has able i → not a ≡ true → voteOf Unread ≡ vote t d day able words j i
   unfolding voteOf vote
   unusable-member a ea h = sym (rw (fails a (has able i) ea h))
 
-  pub unusable-voter : (b : Bool) → b ≡ has able j → not b ≡ true → voteOf Unread ≡ vote t d able words j i
+  pub unusable-voter : (b : Bool) → b ≡ has able j → not b ≡ true → voteOf Unread ≡ vote t d day able words j i
   unfolding voteOf vote
   unusable-voter b eb h = sym (rw (and-no (has able i) (has able j) (fails b (has able j) eb h)))
 
-  module _ (a : Bool) (ea : a ≡ has able i) (ha : not a ≡ false) (b : Bool) (eb : b ≡ has able j) (hb : not b ≡ false) (c : Bool) (ec : c ≡ tagHolds t d words i j) where
-    pub tag-mismatched : not c ≡ true → voteOf Mismatched ≡ vote t d able words j i
+  module _ (a : Bool) (ea : a ≡ has able i) (ha : not a ≡ false) (b : Bool) (eb : b ≡ has able j) (hb : not b ≡ false) (c : Bool) (ec : c ≡ tagHolds t d day words i j) where
+    pub tag-mismatched : not c ≡ true → voteOf Mismatched ≡ vote t d day able words j i
     unfolding voteOf vote
-    tag-mismatched h = sym (rw (passes a (has able i) ea ha, passes b (has able j) eb hb, fails c (tagHolds t d words i j) ec h))
+    tag-mismatched h = sym (rw (passes a (has able i) ea ha, passes b (has able j) eb hb, fails c (tagHolds t d day words i j) ec h))
 
-    pub tag-accepted : not c ≡ false → voteOf Accepted ≡ vote t d able words j i
+    pub tag-accepted : not c ≡ false → voteOf Accepted ≡ vote t d day able words j i
     unfolding voteOf vote
-    tag-accepted h = sym (rw (passes a (has able i) ea ha, passes b (has able j) eb hb, passes c (tagHolds t d words i j) ec h))
+    tag-accepted h = sym (rw (passes a (has able i) ea ha, passes b (has able j) eb hb, passes c (tagHolds t d day words i j) ec h))
 
 -- one vote more, by its kind
 module _ (at : Counted) (v : code.Vote) (j : ℕ) where
@@ -116,24 +116,24 @@ module _ (f : ℕ → Vote) (n : ℕ) where
     counted-kinds = counting .counts ∙ ap (λ (k : ℕ). kinds (tab k f)) (omega (arith, e, counting .taken .inside))
 
 -- those who accept member i, and everybody's vote on it
-abbrev pub rowOf : Shape → ℕ → List ℕ → ℕ → ℕ
-rowOf s able words i = setOf (size (s .t)) (λ j. accepts (s .t) (s .d) able words j i)
+abbrev pub rowOf : Shape → ℕ → ℕ → List ℕ → ℕ → ℕ
+rowOf s day able words i = setOf (size (s .t)) (λ j. accepts (s .t) (s .d) day able words j i)
 
-abbrev pub votesOn : Shape → ℕ → List ℕ → ℕ → List Vote
-votesOn s able words i = tab (size (s .t)) (λ j. vote (s .t) (s .d) able words j i)
+abbrev pub votesOn : Shape → ℕ → ℕ → List ℕ → ℕ → List Vote
+votesOn s day able words i = tab (size (s .t)) (λ j. vote (s .t) (s .d) day able words j i)
 
 -- of the first i of n members the rows are written, and the votes counted
-pub record Filling (s : Shape) (able : ℕ) (words rows : List ℕ) (p : code-pairs.Pairs) (i : ℕ) : Type 0 where
-  pub written : Filled (rowOf s able words) (s .n) rows i
-  pub so-far : pairsOf p ≡ kinds (concat (tab i (votesOn s able words)))
+pub record Filling (s : Shape) (day able : ℕ) (words rows : List ℕ) (p : code-pairs.Pairs) (i : ℕ) : Type 0 where
+  pub written : Filled (rowOf s day able words) (s .n) rows i
+  pub so-far : pairsOf p ≡ kinds (concat (tab i (votesOn s day able words)))
 
-pub filling-first : (s : Shape) (able : ℕ) (words rows : List ℕ) (p : code-pairs.Pairs) → length rows ≡ s .n → pairsOf p ≡ noPairs → Filling s able words rows p 0
+pub filling-first : (s : Shape) (day able : ℕ) (words rows : List ℕ) (p : code-pairs.Pairs) → length rows ≡ s .n → pairsOf p ≡ noPairs → Filling s day able words rows p 0
 unfolding tab concat kinds countOf keep
-filling-first s able words rows p long e = record { written = filled-first (rowOf s able words) (s .n) rows long; so-far = e }
+filling-first s day able words rows p long e = record { written = filled-first (rowOf s day able words) (s .n) rows long; so-far = e }
 
-module _ {s : Shape} {words : List ℕ} (room : Room s words) {able : ℕ} {rows : List ℕ} {p : code-pairs.Pairs} {i : ℕ} (filling : Filling s able words rows p i) where
+module _ {s : Shape} {words : List ℕ} (room : Room s words) {day able : ℕ} {rows : List ℕ} {p : code-pairs.Pairs} {i : ℕ} (filling : Filling s day able words rows p i) where
   abbrev on : ℕ → List Vote
-  on = votesOn s able words
+  on = votesOn s day able words
 
   module _ (less : i < s .n) where
     module _ {q : code-pairs.Pairs} (eq : pairsOf q ≡ kinds (on i)) where
@@ -143,17 +143,17 @@ module _ {s : Shape} {words : List ℕ} (room : Room s words) {able : ℕ} {rows
           let n : ℕ = size (s .t) in
           let few : n ≤ 31 = omega (arith, room .station .few, room .station .members) in
           let e : total (pairsOf p) ≡ i * n =
-          ap total (filling .so-far) ∙ kinds-total (concat (tab i on)) ∙ length-concat i n on (λ k l. length-tab n (λ j. vote (s .t) (s .d) able words j k)) in
-          let g : total (pairsOf q) ≡ n = ap total eq ∙ kinds-total (on i) ∙ length-tab n (λ j. vote (s .t) (s .d) able words j i) in
+          ap total (filling .so-far) ∙ kinds-total (concat (tab i on)) ∙ length-concat i n on (λ k l. length-tab n (λ j. vote (s .t) (s .d) day able words j k)) in
+          let g : total (pairsOf q) ≡ n = ap total eq ∙ kinds-total (on i) ∙ length-tab n (λ j. vote (s .t) (s .d) day able words j i) in
           let m : i * n ≤ 31 * 31 = mul-le-mul {n₂ = 31} {m₂ = 31} (omega (arith, less, room .station .few)) few in
           (omega (arith, e, g, m, few), omega (arith, e, g, m, few), omega (arith, e, g, m, few))
 
-    pub filling-next : {row : ℕ} → row ≡ rowOf s able words i → {q : code-pairs.Pairs} → pairsOf q ≡ kinds (on i)
+    pub filling-next : {row : ℕ} → row ≡ rowOf s day able words i → {q : code-pairs.Pairs} → pairsOf q ≡ kinds (on i)
         → {r : code-pairs.Pairs} → pairsOf r ≡ together (pairsOf p) (pairsOf q)
-        → Filling s able words (set rows i row) r (i + 1)
+        → Filling s day able words (set rows i row) r (i + 1)
     filling-next {row} e {q} eq {r} er =
         record {
-          written = filled-next (rowOf s able words) (s .n) rows i row less (filling .written) e;
+          written = filled-next (rowOf s day able words) (s .n) rows i row less (filling .written) e;
           so-far =
               er
               ∙ ap₂ together (filling .so-far) eq
@@ -163,10 +163,10 @@ module _ {s : Shape} {words : List ℕ} (room : Room s words) {able : ℕ} {rows
         }
 
   module _ (done : s .n ≤ i) where
-    pub rows-last : rows ≡ voteRows (s .t) (s .d) able words
+    pub rows-last : rows ≡ voteRows (s .t) (s .d) day able words
     unfolding voteRows
-    rows-last = filled-last (rowOf s able words) (s .n) rows i done (filling .written) ∙ ap (λ (m : ℕ). tab m (rowOf s able words)) (room .station .members)
+    rows-last = filled-last (rowOf s day able words) (s .n) rows i done (filling .written) ∙ ap (λ (m : ℕ). tab m (rowOf s day able words)) (room .station .members)
 
-    pub pairs-last : pairsOf p ≡ pairs (s .t) (s .d) able words
+    pub pairs-last : pairsOf p ≡ pairs (s .t) (s .d) day able words
     unfolding pairs voteTable
     pairs-last = filling .so-far ∙ ap (λ (m : ℕ). kinds (concat (tab m on))) (omega (arith, filling .written .inside, room .station .members))

@@ -1,5 +1,5 @@
-// Votes from shares (document 01, 'Votes and pruning'; document 02, W-204): who is usable, everybody's vote on everybody, and how many there
-// are of each kind.
+// Votes from shares for a day (document 01, 'Votes and pruning'; document 02, W-204 and W-205): who is usable, everybody's vote on everybody,
+// and how many there are of each kind.
 use shares::Shape;
 ghost use mathlib.Core.Path.{_≡_};
 ghost use mathlib.Core.Bool.{cond, _&&_};
@@ -10,7 +10,7 @@ ghost use lib.ListN.{length, getD, take, drop};
 ghost use Rattle.lists.specs.Tabulate.{tab};
 ghost use Rattle.mac.specs.Tag.{tag};
 ghost use Rattle.members.specs.Members.{size, has, setOf, adding};
-ghost use Rattle.shares.specs.Layout.{capacity};
+ghost use Rattle.shares.specs.Layout.{capacity, tagged};
 ghost use Rattle.shares.specs.Internal.Shape.{Room};
 ghost use Rattle.voting.specs.Votes.{fieldShare, usable, tagHolds, accepted, vote as voteBy, isOf, accepts, voteRows, noPairs, kinds, pairs as pairsBy};
 ghost use Rattle.voting.specs.Answer.{voteOf, pairsOf};
@@ -67,25 +67,25 @@ pub fn usable_members(s: Shape, present: u32, shares: &[u16]) -> u32
     set
 }
 
-// The word at `at` is the tag of the d words from `own` on, under the key at `key`.
-fn is_tag(shares: &[u16], d: usize, own: usize, key: usize, at: usize) -> bool
+// The word at `at` is the tag of the day and the d words from `own` on, under the key at `key`.
+fn is_tag(shares: &[u16], day: u16, d: usize, own: usize, key: usize, at: usize) -> bool
     requires { ⌜ (own + d ≤ length (now shares)) × (key + 2 ≤ length (now shares)) × (at + 1 ≤ length (now shares)) × (length (now shares) ≤ capacity) ⌝ }
-    ensures { λ r. ⌜ r ≡ eqb (getD (now (shares .entry)) at 0) (tag (getD (now (shares .entry)) key 0) (getD (now (shares .entry)) (key + 1) 0) (take d (drop own (now (shares .entry))))) ⌝ }
+    ensures { λ r. ⌜ r ≡ eqb (getD (now (shares .entry)) at 0) (tag (getD (now (shares .entry)) key 0) (getD (now (shares .entry)) (key + 1) 0) (tagged day (take d (drop own (now (shares .entry)))))) ⌝ }
 {
-    let expected = mac::tag(shares[key], shares[key + 1], &shares[own..own + d]);
+    let expected = mac::tag_with_first(shares[key], shares[key + 1], day, &shares[own..own + d]);
     shares[at] == expected
 }
 
-// tag(i,j) is that of i's share words under key(j,i).
-fn tag_holds(s: Shape, shares: &[u16], i: usize, j: usize) -> bool
+// tag(i,j) is that of the day and i's share words under key(j,i).
+fn tag_holds(s: Shape, day: u16, shares: &[u16], i: usize, j: usize) -> bool
     requires { ⌜ Room s (now shares) ⌝ }
     requires { ⌜ (i < s .n) × (j < s .n) ⌝ }
-    ensures { λ r. ⌜ r ≡ tagHolds (s .t) (s .d) (now (shares .entry)) i j ⌝ }
+    ensures { λ r. ⌜ r ≡ tagHolds (s .t) (s .d) day (now (shares .entry)) i j ⌝ }
 {
     let own = shares::words_at(s, i);
     let key = shares::key_at(s, j, i);
     let at = shares::tag_at(s, i, j);
-    is_tag(shares, s.d, own, key, at)
+    is_tag(shares, day, s.d, own, key, at)
 }
 
 // No votes of any kind.
@@ -112,10 +112,10 @@ fn sum(a: Pairs, b: Pairs) -> Pairs
 }
 
 // The vote of member j on member i.
-fn test_tag(s: Shape, able: u32, shares: &[u16], i: usize, j: usize) -> Vote
+fn test_tag(s: Shape, day: u16, able: u32, shares: &[u16], i: usize, j: usize) -> Vote
     requires { ⌜ Room s (now shares) ⌝ }
     requires { ⌜ (i < s .n) × (j < s .n) ⌝ }
-    ensures { λ r. ⌜ voteOf r ≡ voteBy (s .t) (s .d) able (now (shares .entry)) j i ⌝ }
+    ensures { λ r. ⌜ voteOf r ≡ voteBy (s .t) (s .d) day able (now (shares .entry)) j i ⌝ }
 {
     if !members::has(able, i) {
         return Vote::Unread; // the member is not usable
@@ -123,7 +123,7 @@ fn test_tag(s: Shape, able: u32, shares: &[u16], i: usize, j: usize) -> Vote
     if !members::has(able, j) {
         return Vote::Unread; // the voter is not usable
     }
-    if !tag_holds(s, shares, i, j) {
+    if !tag_holds(s, day, shares, i, j) {
         return Vote::Mismatched;
     }
     Vote::Accepted
@@ -168,11 +168,11 @@ fn add_vote(at: Counted, vote: Vote, j: usize) -> Counted
 }
 
 // Everybody's votes on member i.
-fn row(s: Shape, able: u32, shares: &[u16], i: usize) -> Counted
+fn row(s: Shape, day: u16, able: u32, shares: &[u16], i: usize) -> Counted
     requires { ⌜ Room s (now shares) ⌝ }
     requires { ⌜ i < s .n ⌝ }
-    ensures { λ r. ⌜ r .row ≡ setOf (size (s .t)) (λ j. accepts (s .t) (s .d) able (now (shares .entry)) j i) ⌝ }
-    ensures { λ r. ⌜ pairsOf (r .pairs) ≡ kinds (tab (size (s .t)) (λ j. voteBy (s .t) (s .d) able (now (shares .entry)) j i)) ⌝ }
+    ensures { λ r. ⌜ r .row ≡ setOf (size (s .t)) (λ j. accepts (s .t) (s .d) day able (now (shares .entry)) j i) ⌝ }
+    ensures { λ r. ⌜ pairsOf (r .pairs) ≡ kinds (tab (size (s .t)) (λ j. voteBy (s .t) (s .d) day able (now (shares .entry)) j i)) ⌝ }
 {
     let mut at = Counted {
         row: 0,
@@ -180,23 +180,23 @@ fn row(s: Shape, able: u32, shares: &[u16], i: usize) -> Counted
     };
     let mut j = 0;
     while j < s.n {
-        at = add_vote(at, test_tag(s, able, shares, i, j), j);
+        at = add_vote(at, test_tag(s, day, able, shares, i, j), j);
         j = j + 1;
     }
     at
 }
 
 // The vote rows of all members, and how many pairs fell to each kind of vote.
-pub fn fill_rows(s: Shape, able: u32, shares: &[u16], rows: &mut [u32]) -> Pairs
+pub fn fill_rows(s: Shape, day: u16, able: u32, shares: &[u16], rows: &mut [u32]) -> Pairs
     requires { ⌜ Room s (now shares) ⌝ }
     requires { ⌜ length (now rows) ≡ s .n ⌝ }
-    ensures { λ r. ⌜ now (rows .exit) ≡ voteRows (s .t) (s .d) able (now (shares .entry)) ⌝ }
-    ensures { λ r. ⌜ pairsOf r ≡ pairsBy (s .t) (s .d) able (now (shares .entry)) ⌝ }
+    ensures { λ r. ⌜ now (rows .exit) ≡ voteRows (s .t) (s .d) day able (now (shares .entry)) ⌝ }
+    ensures { λ r. ⌜ pairsOf r ≡ pairsBy (s .t) (s .d) day able (now (shares .entry)) ⌝ }
 {
     let mut pairs = no_pairs();
     let mut i = 0;
     while i < rows.len() {
-        let at = row(s, able, shares, i);
+        let at = row(s, day, able, shares, i);
         rows[i] = at.row;
         pairs = sum(pairs, at.pairs);
         i = i + 1;

@@ -17,8 +17,10 @@ use crosscheck::reference::text::{LONGEST_WRITTEN, ROOM, read, write};
 
 const T: usize = 15;
 const D: usize = 64;
-/// The quorum in the texts.
+const DAY: u16 = 1;
+/// The quorum and the day in the texts.
 const QUORUM: u16 = 65535;
+const LAST_DAY: u16 = 65520;
 
 /// One thing measured: each side's work, with its answer's number.
 struct Row {
@@ -34,8 +36,11 @@ fn dealing(secret: Vec<u16>, tape: Vec<u16>) -> Row {
     let (other_secret, other_tape) = (secret.clone(), tape.clone());
     Row {
         name: "dealing",
-        library: Box::new(move || plain::deal(T, &secret, &tape, black_box(&mut mine))),
-        reference: Box::new(move || deal(T, &other_secret, &other_tape, black_box(&mut theirs))),
+        library: Box::new(move || plain::deal(T, DAY, &secret, &tape, black_box(&mut mine))),
+        reference: Box::new(move || {
+            let shares = black_box(&mut theirs);
+            deal(T, DAY, &other_secret, &other_tape, shares)
+        }),
         number: 0,
     }
 }
@@ -47,10 +52,13 @@ fn opening(name: &'static str, present: u32, shares: Vec<u16>, number: u16) -> R
     let other = shares.clone();
     Row {
         name,
-        library: Box::new(move || plain::open(T, present, quorum, &shares, black_box(&mut mine)).0),
+        library: Box::new(move || {
+            let secret = black_box(&mut mine);
+            plain::open(T, DAY, present, quorum, &shares, secret).0
+        }),
         reference: Box::new(move || {
             let secret = black_box(&mut theirs);
-            open(T, present, quorum, &other, secret, Way::Elimination).number
+            open(T, DAY, present, quorum, &other, secret, Way::Elimination).number
         }),
         number,
     }
@@ -91,7 +99,7 @@ fn reading(shares: &[u16]) -> Row {
     let other = text.clone();
     let (mut mine, mut theirs) = (vec![0; ROOM], vec![0; ROOM]);
     Row {
-        name: "reading 31 shares, 29362 bytes",
+        name: "reading 31 shares, 29368 bytes",
         library: Box::new(move || plain::read(&text, black_box(&mut mine)).0),
         reference: Box::new(move || read(&other, black_box(&mut theirs)).number),
         number: 0,
@@ -104,9 +112,15 @@ fn writing(shares: &[u16]) -> Row {
     let all = everybody(2 * T + 1);
     let (mut mine, mut theirs) = (vec![0; LONGEST_WRITTEN], vec![0; LONGEST_WRITTEN]);
     Row {
-        name: "writing 31 shares, 29362 bytes",
-        library: Box::new(move || plain::write(T, D, QUORUM, all, &words, black_box(&mut mine)).0),
-        reference: Box::new(move || write(T, D, QUORUM, all, &other, black_box(&mut theirs)).0),
+        name: "writing 31 shares, 29368 bytes",
+        library: Box::new(move || {
+            let text = black_box(&mut mine);
+            plain::write(T, D, QUORUM, LAST_DAY, all, &words, text).0
+        }),
+        reference: Box::new(move || {
+            let text = black_box(&mut theirs);
+            write(T, D, QUORUM, LAST_DAY, all, &other, text).0
+        }),
         number: 0,
     }
 }
@@ -120,7 +134,7 @@ fn five_digits(shares: &[u16]) -> Vec<u16> {
 fn full_text(shares: &[u16]) -> Vec<u8> {
     let layout = Layout::new(T, D);
     let words = five_digits(shares);
-    let mut text = format!("D\t{T}\t{D}\t{QUORUM}\n");
+    let mut text = format!("D\t{T}\t{D}\t{QUORUM}\t{LAST_DAY}\n");
     for i in 1..=layout.n {
         text += &format!("P\t{i}");
         for word in layout.share(&words, i) {
@@ -137,7 +151,7 @@ fn blind_shares(random: &mut Random, secret: &[u16]) -> Vec<u16> {
     let mut tape = random.fields(random_words(T, D));
     tape[T * D..].fill(0);
     let mut shares = vec![0; Layout::new(T, D).total()];
-    assert_eq!(deal(T, secret, &tape, &mut shares), 0);
+    assert_eq!(deal(T, DAY, secret, &tape, &mut shares), 0);
     shares
 }
 
@@ -171,7 +185,7 @@ fn rows() -> Vec<Row> {
     let secret = random.fields(D);
     let tape = random.fields(random_words(T, D));
     let mut shares = vec![0; layout.total()];
-    assert_eq!(deal(T, &secret, &tape, &mut shares), 0);
+    assert_eq!(deal(T, DAY, &secret, &tape, &mut shares), 0);
     let blind = blind_shares(&mut random, &secret);
     let all = everybody(layout.n);
     let half = everybody(T + 1);

@@ -1,8 +1,8 @@
-//! Dealings: all kinds of random words, and buffers of any length.
+//! Dealings: all kinds of random words and days, and buffers of any length.
 
 use super::Round;
 use super::station::{Keys, Station};
-use crate::calls::Deal;
+use crate::calls::{Deal, Tag};
 use crate::reference::sharing::{Layout, random_words};
 
 pub fn all(round: &mut Round) {
@@ -14,6 +14,8 @@ pub fn all(round: &mut Round) {
         Station::deal_some(round, keys);
     }
     all_equal(round);
+    days(round);
+    tags(round);
     for _ in 0..6 {
         lengths(round);
         words_above(round);
@@ -26,6 +28,7 @@ fn all_equal(round: &mut Round) {
     for word in [0, 65520] {
         let call = Deal {
             t,
+            day: round.random.day(),
             secret: vec![word; d],
             random: vec![word; random_words(t, d)],
             shares: round.random.words(Layout::new(t, d).total()),
@@ -48,6 +51,7 @@ fn lengths(round: &mut Round) {
     };
     let call = Deal {
         t: given,
+        day: round.some_day(),
         secret: round.random.fields(d),
         random: round.random.fields(random),
         shares: round.random.words(shares),
@@ -55,15 +59,66 @@ fn lengths(round: &mut Round) {
     round.ledger.compare("dealing with any lengths", &call);
 }
 
-/// One word at the border or above, first, last or anywhere.
-fn words_above(round: &mut Round) {
+/// A dealing that is accepted.
+fn good(round: &mut Round) -> Deal {
     let (t, d) = (round.some_t(), round.some_d());
-    let mut call = Deal {
+    Deal {
         t,
+        day: round.random.day(),
         secret: round.random.fields(d),
         random: round.random.fields(random_words(t, d)),
         shares: round.random.words(Layout::new(t, d).total()),
-    };
+    }
+}
+
+/// Each end of the days is accepted; the round's word that is no day is refused and leaves the
+/// buffer as it is.
+fn days(round: &mut Round) {
+    let kind = "dealing, each day";
+    for (day, number) in round.tried_days(32) {
+        let call = Deal { day, ..good(round) };
+        let answer = round.ledger.compare(kind, &call);
+        let kept = number == 0 || answer.shares == call.shares;
+        let right = answer.number == number && kept;
+        let what = format!("{number} expected");
+        round.ledger.demand(right, kind, &call, &what, &answer);
+        round.ledger.note(format!("deal: {number}, day {day}"));
+    }
+}
+
+/// Some dealt tags are those that the call for tags gives for the day and then the share words.
+fn tags(round: &mut Round) {
+    let kind = "a dealt tag";
+    let Station {
+        day,
+        layout,
+        shares,
+        ..
+    } = Station::deal_some(round, Keys::Random);
+    for _ in 0..4 {
+        let (i, j) = (
+            round.random.within(1, layout.n),
+            round.random.within(1, layout.n),
+        );
+        let mut words = vec![day];
+        words.extend(layout.words(&shares, i));
+        let key = layout.key(j, i);
+        let call = Tag {
+            alpha: shares[key],
+            beta: shares[key + 1],
+            words,
+        };
+        let tag = round.ledger.compare(kind, &call);
+        let dealt = tag == shares[layout.tag(i, j)];
+        let what = "another tag was dealt";
+        round.ledger.demand(dealt, kind, &call, what, &tag);
+    }
+    round.ledger.note("deal: tags by the call for tags");
+}
+
+/// One word at the border or above, first, last or anywhere.
+fn words_above(round: &mut Round) {
+    let mut call = good(round);
     let word = round.random.pick(&[65520, 65521, 65522, 65535]);
     let list = if round.random.coin() {
         &mut call.secret

@@ -1,5 +1,6 @@
 //! The cases. A round is one seed's run of a fixed list of generators.
 
+pub mod days;
 pub mod dealing;
 pub mod decoding;
 pub mod opening;
@@ -14,15 +15,27 @@ pub mod writing;
 
 use crate::compare::Ledger;
 use crate::random::Random;
+use crate::reference::LARGEST;
 
 /// What a generator works with: its own random numbers and the round's sizes.
 pub struct Round<'a> {
     pub random: Random,
     pub ledger: &'a mut Ledger,
-    /// The round's t and d; all of them come up in turn.
+    /// The round's t, d and word that is no day; all of them come up in turn.
     pub t: usize,
     pub d: usize,
+    pub no_day: u16,
 }
+
+/// The words that are no days.
+pub fn no_days() -> Vec<u16> {
+    let mut words = vec![0];
+    words.extend(LARGEST + 1..=u16::MAX);
+    words
+}
+
+/// The first and the last day.
+pub const END_DAYS: [u16; 2] = [1, LARGEST];
 
 type Generator = fn(&mut Round);
 
@@ -36,11 +49,13 @@ const GENERATORS: &[Generator] = &[
     writing::all,
     orders::all,
     program::all,
+    days::all,
 ];
 
 /// Runs all generators for one seed.
 pub fn round(seed: u64, ledger: &mut Ledger) {
     ledger.seed = seed;
+    let no_days = no_days();
     for (place, generator) in GENERATORS.iter().enumerate() {
         let mut random = Random::new(seed.wrapping_mul(64).wrapping_add(place as u64));
         random.draw();
@@ -49,6 +64,7 @@ pub fn round(seed: u64, ledger: &mut Ledger) {
             ledger,
             t: 1 + (seed % 15) as usize,
             d: 1 + (seed % 64) as usize,
+            no_day: no_days[(seed % no_days.len() as u64) as usize],
         });
     }
 }
@@ -71,6 +87,20 @@ impl Round<'_> {
             1 => self.random.pick(&[1, 64]),
             2 => self.random.within(1, 64),
             _ => self.random.within(1, 6),
+        }
+    }
+
+    /// Each end of the days, and the round's word that is no day, with the number that it meets.
+    pub fn tried_days(&self, refusal: u16) -> [(u16, u16); 3] {
+        let [first, last] = END_DAYS;
+        [(first, 0), (last, 0), (self.no_day, refusal)]
+    }
+
+    /// A day, and now and then a word that is none.
+    pub fn some_day(&mut self) -> u16 {
+        match self.random.once_in(6) {
+            true => self.random.no_day(),
+            false => self.random.day(),
         }
     }
 

@@ -476,7 +476,9 @@ fn known_kinds(round: &mut Round) {
     near_quorum(&mut round.random, &mut handed, usable);
     let call = handed.call(&mut round.random);
     let answer = handed.open(round, kind);
-    let right = answer.pairs == kinds(station.layout.n, usable, &spoilt);
+    let read = |(i, j): &&(usize, usize)| holds(usable, *i) && holds(usable, *j);
+    let mismatched = spoilt.iter().filter(read).count();
+    let right = answer.pairs == kinds(station.layout.n, usable, mismatched);
     let what = "not the votes that were made";
     round.ledger.demand(right, kind, &call, what, &answer);
     let own = spoilt.iter().all(|(i, j)| i == j);
@@ -510,17 +512,15 @@ fn spoil_either(random: &mut Random, handed: &mut Handed, i: usize, j: usize) {
 }
 
 /// A quorum that is allowed: 0, the least, or one that is just met or missed by one.
-fn near_quorum(random: &mut Random, handed: &mut Handed, usable: u32) {
+pub fn near_quorum(random: &mut Random, handed: &mut Handed, usable: u32) {
     let (low, n) = (handed.station.t as u16 + 1, handed.layout().n as u16);
     let count = usable.count_ones() as u16;
     let near = [count, count + 1].map(|quorum| quorum.clamp(low, n));
     handed.quorum = random.pick(&[0, low, near[0], near[1]]);
 }
 
-/// How many votes there are of each kind if just these are spoilt.
-fn kinds(n: usize, usable: u32, spoilt: &[(usize, usize)]) -> Pairs {
-    let read = |(i, j): &&(usize, usize)| holds(usable, *i) && holds(usable, *j);
-    let mismatched = spoilt.iter().filter(read).count();
+/// How many votes there are of each kind if so many between the usable members fail.
+pub fn kinds(n: usize, usable: u32, mismatched: usize) -> Pairs {
     let both = (usable.count_ones() as usize).pow(2);
     Pairs {
         accepted: (both - mismatched) as u16,
@@ -580,6 +580,7 @@ fn lengths(round: &mut Round) {
         };
         let call = Open {
             t: given,
+            day: round.some_day(),
             present: everybody(n) ^ stray,
             quorum: round.random.pick(&[0, 0, t as u16 + 1, n as u16, 65535]),
             shares: round.random.fields(shares),

@@ -17,11 +17,11 @@ pub struct Order {
 
 pub const DEAL: Order = Order {
     call: "deal",
-    numbers: &[1, 2, 3, 4, 5, 6],
+    numbers: &[1, 2, 32, 3, 4, 5, 6],
 };
 pub const OPEN: Order = Order {
     call: "open",
-    numbers: &[1, 2, 11, 12, 13, 14, 15, 16],
+    numbers: &[1, 2, 32, 11, 12, 13, 14, 15, 16],
 };
 pub const PRUNE: Order = Order {
     call: "prune",
@@ -33,7 +33,7 @@ pub const DECODE: Order = Order {
 };
 pub const WRITE: Order = Order {
     call: "write",
-    numbers: &[1, 2, 11, 12, 31],
+    numbers: &[1, 2, 32, 11, 12, 31],
 };
 
 impl Order {
@@ -148,6 +148,7 @@ impl Faulty for Deal {
         let (t, d) = (random.within(1, 15), random.within(2, 5));
         Deal {
             t,
+            day: random.day(),
             secret: random.fields(d),
             random: random.fields(random_words(t, d)),
             shares: random.words(Layout::new(t, d).total()),
@@ -162,6 +163,7 @@ impl Faulty for Deal {
                 let length = if none { 0 } else { random.within(65, 70) };
                 self.secret.resize(length, 0);
             }
+            32 => self.day = random.no_day(),
             3 => change_length(random, &mut self.random, 0),
             4 => change_length(random, &mut self.shares, 0),
             5 => raise(random, &mut self.secret),
@@ -171,14 +173,6 @@ impl Faulty for Deal {
 }
 
 impl Open {
-    /// How many usable members the quorum asks for.
-    fn asked(&self) -> usize {
-        match self.quorum {
-            0 => self.t + 2,
-            given => given as usize,
-        }
-    }
-
     /// A quorum that is neither 0 nor t + 1 to n; one that was not met still is not.
     fn bad_quorum(&self, random: &mut Random) -> u16 {
         let t = self.t as u16;
@@ -201,13 +195,14 @@ impl Open {
 }
 
 impl Faulty for Open {
-    /// All words 0: dealt so with keys and coefficients 0.
+    /// All words 0: dealt so for any day with keys and coefficients 0.
     fn good(random: &mut Random) -> Open {
         let (t, d) = (random.within(2, 15), random.within(1, 3));
         let layout = Layout::new(t, d);
         let quorum = random.within(t + 1, layout.n) as u16;
         Open {
             t,
+            day: random.day(),
             present: everybody(layout.n),
             quorum: random.pick(&[0, quorum, layout.n as u16]),
             shares: vec![0; layout.total()],
@@ -223,6 +218,7 @@ impl Faulty for Open {
         match fault {
             1 => self.t = bad_t(random, self.t, self.present),
             2 => self.secret.resize(random.pick(&[0, 65, 66]), 0),
+            32 => self.day = random.no_day(),
             11 => change_length(random, &mut self.shares, 0),
             12 => self.present |= beyond(random, self.t),
             13 => self.quorum = self.bad_quorum(random),
@@ -308,11 +304,11 @@ impl Faulty for Decode {
     }
 }
 
-/// How many bytes the shortest text would have, for whatever t and d.
-const SHORTEST: usize = 8;
+/// How many bytes the shortest text would have, for whatever t, d and day.
+const SHORTEST: usize = 10;
 
 impl Write {
-    /// A buffer that was too short still is, whatever t and d become.
+    /// A buffer that was too short still is, whatever t, d and the day become.
     fn keep_short(&mut self, random: &mut Random) {
         if self.by_reference().number == 31 {
             self.text.0.truncate(random.below(SHORTEST));
@@ -328,6 +324,7 @@ impl Faulty for Write {
             t,
             d,
             quorum: random.word(),
+            day: random.day(),
             present: random.mask() & everybody(layout.n),
             shares: random.words(layout.total()),
             text: Text(random.bytes(LONGEST_WRITTEN)),
@@ -349,6 +346,10 @@ impl Faulty for Write {
             2 => {
                 self.keep_short(random);
                 self.d = random.pick(&[0, 65, 66]);
+            }
+            32 => {
+                self.keep_short(random);
+                self.day = random.no_day();
             }
             11 => change_length(random, &mut self.shares, 0),
             12 => self.present |= beyond(random, self.t),

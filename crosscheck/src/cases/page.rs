@@ -12,17 +12,19 @@ pub struct Page {
 
 impl Page {
     /// The first line alone.
-    pub fn new(t: usize, d: usize, quorum: Vec<u8>) -> Page {
+    pub fn new(t: usize, d: usize, quorum: usize, day: u16) -> Page {
+        let mut first = vec![b"D".to_vec()];
+        first.extend([t, d, quorum, day as usize].map(numeral));
         Page {
             layout: Layout::new(t, d),
-            lines: vec![vec![b"D".to_vec(), numeral(t), numeral(d), quorum]],
+            lines: vec![first],
             tail: Vec::new(),
         }
     }
 
     /// The first line and these members' lines, in that order.
-    pub fn of(t: usize, d: usize, quorum: u16, shares: &[u16], order: &[usize]) -> Page {
-        let mut page = Page::new(t, d, numeral(quorum as usize));
+    pub fn of(t: usize, d: usize, quorum: u16, day: u16, shares: &[u16], order: &[usize]) -> Page {
+        let mut page = Page::new(t, d, quorum as usize, day);
         for i in order {
             let words = page.layout.share(shares, *i).iter();
             page.add(*i, words.map(|word| numeral(*word as usize)));

@@ -1,10 +1,10 @@
 //! Texts for the program `opening`. Most of them come from the other cases: some of the hand-ins
 //! that the library opens, and some of the texts that it reads, go to the program too.
 
-use super::Round;
-use super::page::Page;
-use super::reading::{Fault, Faulty};
+use super::page::{Page, numeral};
+use super::reading::{DAY, Fault, Faulty};
 use super::station::{Handed, Keys, Station};
+use super::{Round, days};
 use crate::calls::{Print, Text};
 use crate::random::Random;
 use crate::reference::members;
@@ -17,6 +17,7 @@ const ROUNDS: usize = 8;
 
 pub fn all(round: &mut Round) {
     damaged(round);
+    another_day(round);
     if round.random.once_in(ROUNDS) {
         largest(round);
     }
@@ -50,13 +51,16 @@ fn any_order(random: &mut Random, handed: &Handed) -> Vec<usize> {
 /// What these members hand in, as a text.
 fn printed(handed: &Handed, order: &[usize]) -> Page {
     let (t, d) = (handed.station.t, handed.layout().d);
-    Page::of(t, d, handed.quorum, &handed.shares, order)
+    Page::of(t, d, handed.quorum, handed.day, &handed.shares, order)
 }
 
 /// Has both sides print, notes the classes and gives the number, 0 for a text that opens.
 fn submit(round: &mut Round, kind: &str, text: Vec<u8>) -> Option<u16> {
-    let call = Print { text: Text(text) };
-    let answer = round.ledger.compare(kind, &call);
+    print(round, kind, &Print { text: Text(text) }).number()
+}
+
+fn print(round: &mut Round, kind: &str, call: &Print) -> Text {
+    let answer = round.ledger.compare(kind, call);
     round.ledger.note(format!("program: {kind}"));
     if let Some(class) = class_of_text(&call.text.0) {
         round.ledger.note(format!("program: {class}"));
@@ -64,7 +68,7 @@ fn submit(round: &mut Round, kind: &str, text: Vec<u8>) -> Option<u16> {
     if let Some(class) = class_of_answer(&answer) {
         round.ledger.note(format!("program: {class}"));
     }
-    answer.number()
+    answer
 }
 
 fn class_of_text(text: &[u8]) -> Option<&'static str> {
@@ -101,6 +105,26 @@ fn damaged(round: &mut Round) {
         .pick(&[Fault::TooLong, Fault::FirstLine, shape, member]);
     text.spoil(&mut round.random, fault);
     submit(round, "a hand-in, its text spoilt", text.page.bytes());
+}
+
+/// A complete hand-in whose text names another day: nobody survives, if no alpha is 0.
+fn another_day(round: &mut Round) {
+    let kind = "a complete text of another day";
+    let station = days::no_alpha_0(round);
+    let mut handed = station.hand_in(&mut round.random);
+    handed.present = station.everybody();
+    let order = any_order(&mut round.random, &handed);
+    let mut page = printed(&handed, &order);
+    let day = round.random.other_day(station.day);
+    page.lines[0][DAY] = numeral(day as usize);
+    let call = Print {
+        text: Text(page.bytes()),
+    };
+    let answer = print(round, kind, &call);
+    let refused = answer.0 == b"REFUSED\t15\t0\n";
+    round
+        .ledger
+        .demand(refused, kind, &call, "15 expected", &answer);
 }
 
 /// 31 members, 64 words, some of them altered in ways that pass the votes.

@@ -4,7 +4,12 @@ use super::page::{Page, numeral};
 use super::{Round, program};
 use crate::calls::{Read, ReadAnswer, Text};
 use crate::random::Random;
-use crate::reference::text::{LONGEST, ROOM};
+use crate::reference::LARGEST;
+use crate::reference::text::{LONGEST, LONGEST_WRITTEN, ROOM};
+
+/// Where the quorum and the day stand in the first line.
+const QUORUM: usize = 3;
+pub const DAY: usize = 4;
 
 /// A reason to refuse a text. Lines are counted back from the last one.
 #[derive(Clone, Copy)]
@@ -52,6 +57,7 @@ pub fn all(round: &mut Round) {
     for _ in 0..4 {
         good(round);
         first_lines(round);
+        day_faults(round);
         share_lines(round);
         share_lines(round);
         member_faults(round);
@@ -59,6 +65,7 @@ pub fn all(round: &mut Round) {
         edits(round);
         edits(round);
     }
+    days(round);
     longest_good(round);
     long(round);
     lengths(round);
@@ -81,7 +88,7 @@ fn some_numeral(random: &mut Random) -> Vec<u8> {
 
 /// A good text with lines for some members.
 fn page(random: &mut Random, t: usize, d: usize) -> Page {
-    let mut page = Page::new(t, d, some_numeral(random));
+    let mut page = Page::new(t, d, some_word(random), random.day());
     let (n, width) = (page.layout.n, page.layout.width());
     let mut order: Vec<usize> = (1..=n).collect();
     random.shuffle(&mut order);
@@ -111,7 +118,7 @@ fn page_with(round: &mut Round, count: usize) -> Page {
     }
 }
 
-/// Reads by both sides. Now and then the program reads it too.
+/// Reads by both sides; a refusal gives nothing but zeros. Now and then the program reads it too.
 pub fn submit(round: &mut Round, kind: &str, text: Vec<u8>, room: usize) -> (Read, ReadAnswer) {
     let call = Read {
         text: Text(text),
@@ -119,9 +126,22 @@ pub fn submit(round: &mut Round, kind: &str, text: Vec<u8>, room: usize) -> (Rea
         t: round.random.draw() as usize,
         d: round.random.draw() as usize,
         quorum: round.random.word(),
+        day: round.random.word(),
         present: round.random.mask(),
     };
     let answer = round.ledger.compare(kind, &call);
+    let nothing = ReadAnswer {
+        number: answer.number,
+        words: vec![0; room],
+        t: 0,
+        d: 0,
+        quorum: 0,
+        day: 0,
+        present: 0,
+    };
+    let right = answer.number == 0 || answer == nothing;
+    let what = "not all 0 after a refusal";
+    round.ledger.demand(right, kind, &call, what, &answer);
     if room == ROOM {
         program::try_text(round, kind, &call.text.0);
     }
@@ -149,6 +169,21 @@ fn good(round: &mut Round) {
     expect(round, "good text", page.bytes(), ROOM, 0);
 }
 
+/// Each end of the days is read, and the round's word that is no day is refused.
+fn days(round: &mut Round) {
+    for (day, number) in round.tried_days(22) {
+        let kind = "each day in a text";
+        let mut page = some_page(round);
+        page.lines[0][DAY] = numeral(day as usize);
+        let (call, answer) = submit(round, kind, page.bytes(), ROOM);
+        let given = if number == 0 { day } else { 0 };
+        let right = (answer.number, answer.day) == (number, given);
+        let what = format!("{number} and day {given} expected");
+        round.ledger.demand(right, kind, &call, &what, &answer);
+        round.ledger.note(format!("read: {number}, day {day}"));
+    }
+}
+
 /// The longest good text there is.
 fn longest_good(round: &mut Round) {
     let mut page = page(&mut round.random, 15, 64);
@@ -157,8 +192,9 @@ fn longest_good(round: &mut Round) {
             *field = numeral(round.random.within(10000, 65535));
         }
     }
-    page.lines[0][3] = numeral(round.random.within(10000, 65535));
-    if page.bytes().len() == 29362 {
+    page.lines[0][QUORUM] = numeral(round.random.within(10000, 65535));
+    page.lines[0][DAY] = numeral(round.random.within(10000, LARGEST as usize));
+    if page.bytes().len() == LONGEST_WRITTEN {
         round.ledger.note("read: the longest good text");
     }
     expect(round, "longest good text", page.bytes(), ROOM, 0);
@@ -270,6 +306,47 @@ fn first_lines(round: &mut Round) {
         round.ledger.note("read: first line, d outside");
     }
     expect(round, "first line spoilt", page.bytes(), ROOM, 22);
+}
+
+/// Names of what is no day at the end of a first line.
+pub const DAY_FAULTS: &[&str] = &[
+    "day 0",
+    "day above 65520",
+    "day that is good modulo 65536",
+    "day with a leading zero",
+    "day empty",
+    "day missing",
+    "day missing, the quorum one",
+    "day doubled",
+    "day before the quorum, which is none",
+];
+
+/// Puts that in place of the day.
+fn spoil_day(random: &mut Random, line: &mut Vec<Vec<u8>>, way: usize) {
+    match way {
+        0 => line[DAY] = numeral(0),
+        1 => line[DAY] = numeral(random.above() as usize),
+        2 => line[DAY] = numeral(random.day() as usize + 65536),
+        3 => line[DAY].insert(0, b'0'),
+        4 => line[DAY].clear(),
+        5 => drop(line.pop()),
+        6 => drop(line.remove(QUORUM)),
+        7 => line.push(line[DAY].clone()),
+        _ => {
+            line[QUORUM] = numeral(random.no_day() as usize);
+            line.swap(QUORUM, DAY);
+        }
+    }
+}
+
+/// A first line that is good but for the day.
+fn day_faults(round: &mut Round) {
+    let mut page = some_page(round);
+    let way = round.random.below(DAY_FAULTS.len());
+    spoil_day(&mut round.random, &mut page.lines[0], way);
+    let name = DAY_FAULTS[way];
+    round.ledger.note(format!("read: first line, {name}"));
+    expect(round, "day spoilt", page.bytes(), ROOM, 22);
 }
 
 /// Damage to a share line's shape.
@@ -439,8 +516,12 @@ impl Faulty {
                 }
             }
             Fault::FirstLine => {
-                let way = random.below(DAMAGES.len());
-                damage(random, &mut self.page.lines[0], way);
+                let line = &mut self.page.lines[0];
+                let (shape, day) = (random.below(DAMAGES.len()), random.below(DAY_FAULTS.len()));
+                match random.coin() {
+                    true => damage(random, line, shape),
+                    false => spoil_day(random, line, day),
+                }
             }
             Fault::Shape(back) => {
                 let line = &mut self.page.lines[last - back];

@@ -12,34 +12,57 @@ use crate::reference::{everybody, members};
 pub enum Keys {
     Random,
     Zero,
-    /// Alpha 0 only: tags do not depend on the words, any alteration passes.
+    /// Alpha 0 only: tags do not depend on the day or the words, any alteration passes.
     Blind,
 }
 
 /// A dealing.
 pub struct Station {
     pub t: usize,
+    pub day: u16,
     pub layout: Layout,
     pub secret: Vec<u16>,
+    pub random: Vec<u16>,
     pub shares: Vec<u16>,
 }
 
 impl Station {
-    /// Deals by both sides and keeps the answer.
+    /// Deals for some day.
     pub fn deal(round: &mut Round, t: usize, d: usize, keys: Keys) -> Station {
-        let layout = Layout::new(t, d);
         let random = random_for(&mut round.random, t, d, keys);
+        let day = round.random.day();
+        Station::with(round, t, d, day, random)
+    }
+
+    /// Deals some secret with those random words.
+    pub fn with(round: &mut Round, t: usize, d: usize, day: u16, random: Vec<u16>) -> Station {
+        let secret = round.random.fields(d);
+        Station::of(round, t, day, secret, random)
+    }
+
+    /// The same secret with the same random words, for that day.
+    pub fn again(&self, round: &mut Round, day: u16) -> Station {
+        let (secret, random) = (self.secret.clone(), self.random.clone());
+        Station::of(round, self.t, day, secret, random)
+    }
+
+    /// Deals by both sides and keeps the answer.
+    fn of(round: &mut Round, t: usize, day: u16, secret: Vec<u16>, random: Vec<u16>) -> Station {
+        let layout = Layout::new(t, secret.len());
         let call = Deal {
             t,
-            secret: round.random.fields(d),
+            day,
+            secret,
             random,
             shares: round.random.words(layout.total()),
         };
         let dealt = round.ledger.compare("dealing for an opening", &call);
         Station {
             t,
+            day,
             layout,
             secret: call.secret,
+            random: call.random,
             shares: dealt.shares,
         }
     }
@@ -63,8 +86,8 @@ impl Station {
         everybody(self.layout.n)
     }
 
-    /// The shares as dealt, handed in by some members, at least t + 1 of them, with a quorum that
-    /// they meet: t + 1, or 0 if there are more.
+    /// The shares as dealt, handed in by some members for the dealing's day, at least t + 1 of
+    /// them, with a quorum that they meet: t + 1, or 0 if there are more.
     pub fn hand_in(&self, random: &mut Random) -> Handed<'_> {
         let n = self.layout.n;
         let count = match random.below(4) {
@@ -76,6 +99,7 @@ impl Station {
         let default = count > least && random.coin();
         Handed {
             station: self,
+            day: self.day,
             shares: self.shares.clone(),
             present: random.choose(self.everybody(), count),
             quorum: if default { 0 } else { least as u16 },
@@ -83,7 +107,8 @@ impl Station {
     }
 }
 
-fn random_for(random: &mut Random, t: usize, d: usize, keys: Keys) -> Vec<u16> {
+/// Random words for a dealing with keys of that kind.
+pub fn random_for(random: &mut Random, t: usize, d: usize, keys: Keys) -> Vec<u16> {
     let mut words = random.fields(random_words(t, d));
     if random.once_in(12) {
         words[..t * d].fill(0);
@@ -102,6 +127,8 @@ fn random_for(random: &mut Random, t: usize, d: usize, keys: Keys) -> Vec<u16> {
 #[derive(Clone)]
 pub struct Handed<'a> {
     pub station: &'a Station,
+    /// The day that it is opened for.
+    pub day: u16,
     pub shares: Vec<u16>,
     pub present: u32,
     pub quorum: u16,
@@ -128,7 +155,7 @@ impl Handed<'_> {
         let layout = self.layout();
         for i in members(of) {
             for j in members(judges) {
-                self.shares[layout.tag(i, j)] = layout.asked(&self.shares, i, j);
+                self.shares[layout.tag(i, j)] = layout.asked(self.day, &self.shares, i, j);
             }
         }
     }
@@ -136,7 +163,7 @@ impl Handed<'_> {
     /// Makes tag(i, j) fail.
     pub fn spoil(&mut self, random: &mut Random, i: usize, j: usize) {
         let layout = self.layout();
-        let asked = layout.asked(&self.shares, i, j);
+        let asked = layout.asked(self.day, &self.shares, i, j);
         self.shares[layout.tag(i, j)] = random.other(asked);
     }
 
@@ -148,6 +175,7 @@ impl Handed<'_> {
     pub fn call(&self, random: &mut Random) -> Open {
         Open {
             t: self.station.t,
+            day: self.day,
             present: self.present,
             quorum: self.quorum,
             shares: self.shares.clone(),
@@ -173,7 +201,31 @@ impl Handed<'_> {
         answer
     }
 
+    /// Opens, and demands that answer.
+    pub fn expect(&self, round: &mut Round, kind: &str, wanted: &Opened) {
+        let answer = self.open(round, kind);
+        let call = self.call(&mut round.random);
+        let right = answer == *wanted;
+        let what = format!("{wanted:?} expected");
+        round.ledger.demand(right, kind, &call, &what, &answer);
+    }
+
+    /// The answer of an opening that is refused, but for 16.
+    pub fn refused(&self, number: u16, pairs: Pairs) -> Opened {
+        Opened {
+            number,
+            secret: vec![65535; self.layout().d],
+            survivors: 0,
+            agreeing: 0,
+            pairs,
+        }
+    }
+
+    /// The members whose shares are as dealt; nobody if the dealing was for another day.
     fn as_dealt(&self) -> u32 {
+        if self.day != self.station.day {
+            return 0;
+        }
         let layout = self.layout();
         let kept =
             |i: &usize| same_share(layout, &self.shares, &self.station.shares, self.present, *i);

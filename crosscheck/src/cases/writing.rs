@@ -1,10 +1,10 @@
-//! Hand-ins to write as text: words, masks and quorums of all kinds, and buffers of any length.
-//! Every text that is written is read back.
+//! Hand-ins to write as text: words, masks, quorums and days of all kinds, and buffers of any
+//! length. Every text that is written is read back.
 
-use super::Round;
 use super::page::Page;
 use super::reading::{self, some_page, some_word};
 use super::station::{Handed, Station};
+use super::{END_DAYS, Round};
 use crate::calls::{ReadAnswer, Text, Write, Written};
 use crate::compare::Ledger;
 use crate::random::Random;
@@ -20,6 +20,7 @@ pub fn all(round: &mut Round) {
         outside(round);
         lengths(round);
     }
+    days(round);
     longest(round);
     opened(round);
     written_again(round);
@@ -37,6 +38,7 @@ fn hand_in(random: &mut Random, t: usize, d: usize) -> Write {
         t,
         d,
         quorum: some_quorum(random, t),
+        day: random.day(),
         present,
         shares,
         text: Text(Vec::new()),
@@ -78,7 +80,8 @@ fn some_quorum(random: &mut Random, t: usize) -> u16 {
 /// The text by the lines of a page.
 fn text_of(call: &Write) -> Vec<u8> {
     let order = members(call.present);
-    Page::of(call.t, call.d, call.quorum, &call.shares, &order).bytes()
+    let page = Page::of(call.t, call.d, call.quorum, call.day, &call.shares, &order);
+    page.bytes()
 }
 
 /// The shares as they are read back.
@@ -142,6 +145,7 @@ fn read_back(round: &mut Round, call: &Write, answer: &Written) -> ReadAnswer {
         t: call.t,
         d: call.d,
         quorum: call.quorum,
+        day: call.day,
         present: call.present,
     };
     let same = found == wanted;
@@ -210,9 +214,13 @@ fn each_size(round: &mut Round) {
     buffers(round, "writing, each size", &hand_in);
 }
 
-fn any_size(round: &mut Round) {
+fn some_hand_in(round: &mut Round) -> Write {
     let (t, d) = (round.some_t(), round.some_d());
-    let hand_in = hand_in(&mut round.random, t, d);
+    hand_in(&mut round.random, t, d)
+}
+
+fn any_size(round: &mut Round) {
+    let hand_in = some_hand_in(round);
     buffers(round, "writing", &hand_in);
 }
 
@@ -222,6 +230,7 @@ fn longest(round: &mut Round) {
     let mut call = hand_in(random, 15, 64);
     call.present = everybody(31);
     call.quorum = random.within(10000, 65535) as u16;
+    call.day = random.within(10000, LARGEST as usize) as u16;
     for word in &mut call.shares {
         *word = random.within(10000, 65535) as u16;
     }
@@ -230,16 +239,31 @@ fn longest(round: &mut Round) {
     }
 }
 
-/// One thing outside: t, d, the count of words or the mask.
+/// Each end of the days is written; the round's word that is no day is refused.
+fn days(round: &mut Round) {
+    for day in END_DAYS {
+        let mut call = some_hand_in(round);
+        call.day = day;
+        let number = submit(round, "writing, each day", &call, LONGEST_WRITTEN).number;
+        round.ledger.note(format!("write: {number}, day {day}"));
+    }
+    let mut call = some_hand_in(round);
+    call.day = round.no_day;
+    refuse(round, &call, 32);
+    round
+        .ledger
+        .note(format!("write: 32, day {}", round.no_day));
+}
+
+/// One thing outside: t, d, the day, the count of words or the mask.
 fn outside(round: &mut Round) {
-    let kind = "writing, one thing outside";
-    let (t, d) = (round.some_t(), round.some_d());
-    let mut call = hand_in(&mut round.random, t, d);
-    let (n, total) = (2 * t + 1, call.shares.len());
-    let number = round.random.pick(&[1, 2, 11, 12]);
+    let mut call = some_hand_in(round);
+    let (n, total) = (2 * call.t + 1, call.shares.len());
+    let number = round.random.pick(&[1, 2, 32, 11, 12]);
     match number {
         1 => call.t = round.bad_t(),
         2 => call.d = round.bad_d(),
+        32 => call.day = round.random.no_day(),
         11 => {
             let length = round.length(n, total);
             let length = if length == total { total + n } else { length };
@@ -247,12 +271,23 @@ fn outside(round: &mut Round) {
         }
         _ => call.present |= 1 << round.random.within(n, 31),
     }
+    refuse(round, &call, number);
+}
+
+/// Writes by both sides into any buffer, which is left as it is for that number.
+fn refuse(round: &mut Round, hand_in: &Write, number: u16) {
+    let kind = "writing, one thing outside";
     let any = round.random.within(0, LONGEST_WRITTEN);
     let room = round.random.pick(&[0, any, LONGEST_WRITTEN]);
-    let call = with_room(&mut round.random, &call, room);
+    let call = with_room(&mut round.random, hand_in, room);
     let answer = round.ledger.compare(kind, &call);
-    let right = answer.number == number;
-    let what = format!("{number} expected");
+    let wanted = Written {
+        number,
+        text: call.text.clone(),
+        count: 0,
+    };
+    let right = answer == wanted;
+    let what = format!("{number} expected, and nothing written");
     round.ledger.demand(right, kind, &call, &what, &answer);
 }
 
@@ -270,6 +305,7 @@ fn lengths(round: &mut Round) {
         t: round.random.pick(&[t, t, t, bad_t]),
         d,
         quorum: round.random.word(),
+        day: round.some_day(),
         present: round.random.pick(&[any, part, part]),
         shares: round.random.words(shares),
         text: Text(round.random.bytes(room)),
@@ -301,6 +337,7 @@ fn opened(round: &mut Round) {
         t: station.t,
         d: station.layout.d,
         quorum: handed.quorum,
+        day: handed.day,
         present: handed.present,
         shares: handed.shares.clone(),
         text: Text(Vec::new()),
@@ -312,6 +349,7 @@ fn opened(round: &mut Round) {
     let at_once = handed.open(round, kind);
     let read = Handed {
         station: &station,
+        day: found.day,
         shares: found.words[..station.layout.total()].to_vec(),
         present: found.present,
         quorum: found.quorum,
@@ -334,6 +372,7 @@ fn written_again(round: &mut Round) {
         t: found.t,
         d: found.d,
         quorum: found.quorum,
+        day: found.day,
         present: found.present,
         shares: found.words[..page.layout.total()].to_vec(),
         text: Text(Vec::new()),

@@ -43,3 +43,8 @@ pub fn need(t: usize, s: usize) -> usize {
 pub fn allowed(t: usize) -> bool {
     (1..=15).contains(&t)
 }
+
+/// Whether the word is a day.
+pub fn is_day(word: u16) -> bool {
+    (1..=LARGEST).contains(&word)
+}

@@ -14,6 +14,7 @@ pub fn printed(text: &[u8]) -> String {
     let mut secret = vec![0; reading.d];
     let opening = open(
         reading.t,
+        reading.day,
         reading.present,
         reading.quorum,
         &words[..Layout::new(reading.t, reading.d).total()],

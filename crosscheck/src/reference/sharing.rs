@@ -4,7 +4,7 @@ use super::decoding::{Point, Way, agreeing, polynomial_through, subsets};
 use super::field::{P, add, mul};
 use super::polynomial::{value, weights};
 use super::pruning::survivors;
-use super::{BLANK, LARGEST, allowed, everybody, holds, members, need};
+use super::{BLANK, LARGEST, allowed, everybody, holds, is_day, members, need};
 
 /// The tag: beta plus the sum of alpha to the power k times word k.
 pub fn tag(alpha: u16, beta: u16, words: &[u16]) -> u16 {
@@ -16,6 +16,11 @@ pub fn tag(alpha: u16, beta: u16, words: &[u16]) -> u16 {
         sum = add(sum, mul(power, *word as u32 % P));
     }
     sum as u16
+}
+
+/// What is tagged for a day: the day first, then the share words.
+pub fn tagged(day: u16, words: &[u16]) -> Vec<u16> {
+    [&[day], words].concat()
 }
 
 /// Where things stand in a station's shares.
@@ -65,10 +70,11 @@ impl Layout {
         &shares[self.word(i, 0)..self.word(i + 1, 0)]
     }
 
-    /// The tag that member `j`'s key asks of member `i`'s share words.
-    pub fn asked(&self, shares: &[u16], i: usize, j: usize) -> u16 {
+    /// The tag that member `j`'s key asks of member `i`'s share words on that day.
+    pub fn asked(&self, day: u16, shares: &[u16], i: usize, j: usize) -> u16 {
         let key = self.key(j, i);
-        tag(shares[key], shares[key + 1], self.words(shares, i))
+        let words = tagged(day, self.words(shares, i));
+        tag(shares[key], shares[key + 1], &words)
     }
 }
 
@@ -78,19 +84,30 @@ pub fn random_words(t: usize, d: usize) -> usize {
     t * d + 2 * n * n
 }
 
-/// The call: deals into `shares`, which a refusal leaves as it is.
-pub fn deal(t: usize, secret: &[u16], random: &[u16], shares: &mut [u16]) -> u16 {
+/// The refusals that come first: t, then d, then the day.
+fn begun(t: usize, d: usize, day: u16) -> Result<Layout, u16> {
     if !allowed(t) {
-        return 1;
+        return Err(1);
     }
-    let d = secret.len();
     if !(1..=64).contains(&d) {
-        return 2;
+        return Err(2);
     }
+    if !is_day(day) {
+        return Err(32);
+    }
+    Ok(Layout::new(t, d))
+}
+
+/// The call: deals into `shares`, which a refusal leaves as it is.
+pub fn deal(t: usize, day: u16, secret: &[u16], random: &[u16], shares: &mut [u16]) -> u16 {
+    let d = secret.len();
+    let layout = match begun(t, d, day) {
+        Ok(layout) => layout,
+        Err(number) => return number,
+    };
     if random.len() != random_words(t, d) {
         return 3;
     }
-    let layout = Layout::new(t, d);
     if shares.len() != layout.total() {
         return 4;
     }
@@ -103,7 +120,7 @@ pub fn deal(t: usize, secret: &[u16], random: &[u16], shares: &mut [u16]) -> u16
     let (coefficients, keys) = random.split_at(t * d);
     write_words(t, layout, secret, coefficients, shares);
     write_keys(layout, keys, shares);
-    write_tags(layout, shares);
+    write_tags(layout, day, shares);
     0
 }
 
@@ -124,10 +141,10 @@ fn write_keys(layout: Layout, keys: &[u16], shares: &mut [u16]) {
     }
 }
 
-fn write_tags(layout: Layout, shares: &mut [u16]) {
+fn write_tags(layout: Layout, day: u16, shares: &mut [u16]) {
     for i in 1..=layout.n {
         for j in 1..=layout.n {
-            shares[layout.tag(i, j)] = layout.asked(shares, i, j);
+            shares[layout.tag(i, j)] = layout.asked(day, shares, i, j);
         }
     }
 }
@@ -170,6 +187,7 @@ fn refused(number: u16, pairs: Pairs) -> Opening {
 /// The call: opens into `secret`, whose length is d; a refusal fills it with 65535.
 pub fn open(
     t: usize,
+    day: u16,
     present: u32,
     quorum: u16,
     shares: &[u16],
@@ -177,12 +195,12 @@ pub fn open(
     way: Way,
 ) -> Opening {
     secret.fill(BLANK);
-    let layout = match judged(t, present, quorum, shares, secret.len()) {
+    let layout = match judged(t, day, present, quorum, shares, secret.len()) {
         Ok(layout) => layout,
         Err(number) => return refused(number, Pairs::default()),
     };
     let usable = usable(layout, present, shares);
-    let votes = votes(layout, usable, shares);
+    let votes = votes(layout, day, usable, shares);
     let pairs = counted(&votes);
     let asked = if quorum == 0 { t + 2 } else { quorum as usize };
     if (usable.count_ones() as usize) < asked {
@@ -212,8 +230,15 @@ pub fn open(
 }
 
 /// The refusals that come before any word is looked at.
-fn judged(t: usize, present: u32, quorum: u16, shares: &[u16], d: usize) -> Result<Layout, u16> {
-    let layout = fitting(t, d, present, shares)?;
+fn judged(
+    t: usize,
+    day: u16,
+    present: u32,
+    quorum: u16,
+    shares: &[u16],
+    d: usize,
+) -> Result<Layout, u16> {
+    let layout = fitting(t, d, day, present, shares)?;
     let quorum = quorum as usize;
     if quorum != 0 && !(t + 1..=layout.n).contains(&quorum) {
         return Err(13);
@@ -221,15 +246,9 @@ fn judged(t: usize, present: u32, quorum: u16, shares: &[u16], d: usize) -> Resu
     Ok(layout)
 }
 
-/// Whether t, d, the shares and the mask fit each other.
-pub fn fitting(t: usize, d: usize, present: u32, shares: &[u16]) -> Result<Layout, u16> {
-    if !allowed(t) {
-        return Err(1);
-    }
-    if !(1..=64).contains(&d) {
-        return Err(2);
-    }
-    let layout = Layout::new(t, d);
+/// Whether t, d and the day are allowed, and the shares and the mask fit them.
+pub fn fitting(t: usize, d: usize, day: u16, present: u32, shares: &[u16]) -> Result<Layout, u16> {
+    let layout = begun(t, d, day)?;
     if shares.len() != layout.total() {
         return Err(11);
     }
@@ -247,19 +266,19 @@ pub fn usable(layout: Layout, present: u32, shares: &[u16]) -> u32 {
 }
 
 /// How member `j` votes on member `i`.
-fn vote(layout: Layout, usable: u32, shares: &[u16], i: usize, j: usize) -> Vote {
+fn vote(layout: Layout, day: u16, usable: u32, shares: &[u16], i: usize, j: usize) -> Vote {
     if !holds(usable, i) || !holds(usable, j) {
         return Vote::Unread;
     }
-    match shares[layout.tag(i, j)] == layout.asked(shares, i, j) {
+    match shares[layout.tag(i, j)] == layout.asked(day, shares, i, j) {
         true => Vote::Accepted,
         false => Vote::Mismatched,
     }
 }
 
 /// All votes: on member 1 by each member in turn, on member 2, and so on.
-fn votes(layout: Layout, usable: u32, shares: &[u16]) -> Vec<Vec<Vote>> {
-    let on = |i| (1..=layout.n).map(move |j| vote(layout, usable, shares, i, j));
+fn votes(layout: Layout, day: u16, usable: u32, shares: &[u16]) -> Vec<Vec<Vote>> {
+    let on = |i| (1..=layout.n).map(move |j| vote(layout, day, usable, shares, i, j));
     (1..=layout.n).map(|i| on(i).collect()).collect()
 }
 

@@ -1,14 +1,14 @@
 //! The reader of hand-in text, by splitting into lines and fields, and the writer.
 
 use super::sharing::{Layout, fitting};
-use super::{allowed, holds, members};
+use super::{allowed, holds, is_day, members};
 
 /// How many words the reader's buffer has.
 pub const ROOM: usize = 4867;
 /// The longest text that is read, in bytes.
 pub const LONGEST: usize = 40000;
 /// The longest text that is written, in bytes.
-pub const LONGEST_WRITTEN: usize = 29362;
+pub const LONGEST_WRITTEN: usize = 29368;
 
 /// What the reader gives beside the words.
 #[derive(Clone, Copy, Debug, Default, PartialEq, Eq)]
@@ -17,6 +17,7 @@ pub struct Reading {
     pub t: usize,
     pub d: usize,
     pub quorum: u16,
+    pub day: u16,
     pub present: u32,
 }
 
@@ -66,18 +67,20 @@ fn fields(line: &[u8]) -> Vec<&[u8]> {
 
 fn first_line(line: &[u8]) -> Option<Reading> {
     let fields = fields(line);
-    if fields.len() != 4 || fields[0] != b"D" {
+    if fields.len() != 5 || fields[0] != b"D" {
         return None;
     }
     let t = numeral(fields[1])? as usize;
     let d = numeral(fields[2])? as usize;
     let quorum = numeral(fields[3])?;
-    let good = allowed(t) && (1..=64).contains(&d);
+    let day = numeral(fields[4])?;
+    let good = allowed(t) && (1..=64).contains(&d) && is_day(day);
     good.then_some(Reading {
         number: 0,
         t,
         d,
         quorum,
+        day,
         present: 0,
     })
 }
@@ -109,15 +112,17 @@ pub fn write(
     t: usize,
     d: usize,
     quorum: u16,
+    day: u16,
     present: u32,
     shares: &[u16],
     text: &mut [u8],
 ) -> (u16, usize) {
-    let layout = match fitting(t, d, present, shares) {
+    let layout = match fitting(t, d, day, present, shares) {
         Ok(layout) => layout,
         Err(number) => return (number, 0),
     };
-    let written = written(t, layout, quorum, present, shares);
+    let first = format!("D\t{t}\t{d}\t{quorum}\t{day}\n");
+    let written = first + &share_lines(layout, present, shares);
     match text.get_mut(..written.len()) {
         Some(start) => start.copy_from_slice(written.as_bytes()),
         None => return (31, 0),
@@ -125,8 +130,9 @@ pub fn write(
     (0, written.len())
 }
 
-fn written(t: usize, layout: Layout, quorum: u16, present: u32, shares: &[u16]) -> String {
-    let mut text = format!("D\t{t}\t{}\t{quorum}\n", layout.d);
+/// The lines of the members present.
+fn share_lines(layout: Layout, present: u32, shares: &[u16]) -> String {
+    let mut text = String::new();
     for i in members(present) {
         let words = layout.share(shares, i).iter();
         let fields: Vec<String> = words.map(|word| word.to_string()).collect();

@@ -1,5 +1,6 @@
 -- Each claim has its proof.
 -- Assumes nothing.
+use Rattle.claims.proofs.Days.{complete-set, another-day, day-instances}
 use Rattle.claims.proofs.Demand2.{demand2}
 use Rattle.claims.proofs.Demand3.{demand3, dealt-anywhere}
 use Rattle.claims.proofs.Examples.{examples, corners}
@@ -22,6 +23,9 @@ hold-spec =
       instances = instances;
       opening = opening;
       dealt-anywhere = dealt-anywhere;
+      complete-set = complete-set;
+      another-day = another-day;
+      day-instances = day-instances;
       pair-counts = pair-counts;
       reads-back = reads-back;
       at-most = at-most;

@@ -14,10 +14,10 @@ use Rattle.dealing.specs.Dealing.{dealtShares}
 use Rattle.dealing.proofs.fill_at_own.Statement.{statement}
 use Rattle.dealing.proofs.fill_at_own.Tie as tie
 
-at-own : (s : Shape) (points₀ points secret random shares : List ℕ) → Station s → length points₀ ≡ s .n → points ≡ tab (length points₀) (λ i. suc i)
-    → shares ≡ dealtShares points (s .t) secret random → shares ≡ dealtShares (ownPoints (s .t)) (s .t) secret random
-at-own s points₀ points secret random shares st long e es =
-    es ∙ ap (λ (xs : List ℕ). dealtShares xs (s .t) secret random) (own-written (s .t) (length points₀) points (long ∙ st .members) e)
+at-own : (s : Shape) (day : ℕ) (points₀ points secret random shares : List ℕ) → Station s → length points₀ ≡ s .n → points ≡ tab (length points₀) (λ i. suc i)
+    → shares ≡ dealtShares points (s .t) day secret random → shares ≡ dealtShares (ownPoints (s .t)) (s .t) day secret random
+at-own s day points₀ points secret random shares st long e es =
+    es ∙ ap (λ (xs : List ℕ). dealtShares xs (s .t) day secret random) (own-written (s .t) (length points₀) points (long ∙ st .members) e)
 
 pub fill-at-own-spec : {M : Type 1} → statement M
 fill-at-own-spec =

@@ -19,39 +19,39 @@ use Rattle.dealing.proofs.Laws.{length-share}
 use Rattle.dealing.proofs.fill_shares.Statement.{statement}
 use Rattle.dealing.proofs.fill_shares.Tie as tie
 
-record Turn (s : Shape) (xs secret random shares₀ shares : List ℕ) (i : ℕ) : Type 0 where
+record Turn (s : Shape) (day : ℕ) (xs secret random shares₀ shares : List ℕ) (i : ℕ) : Type 0 where
   room : Room s shares
-  joined : Joined (s .n) (s .width) (dealtShare xs (s .t) secret random) shares₀ 0 shares i
+  joined : Joined (s .n) (s .width) (dealtShare xs (s .t) day secret random) shares₀ 0 shares i
 
-first : (s : Shape) (xs secret random shares : List ℕ) → Room s shares → Turn s xs secret random shares shares 0
-first s xs secret random shares room = record { room = room; joined = joined-first _ _ _ _ _ }
+first : (s : Shape) (day : ℕ) (xs secret random shares : List ℕ) → Room s shares → Turn s day xs secret random shares shares 0
+first s day xs secret random shares room = record { room = room; joined = joined-first _ _ _ _ _ }
 
-module _ (s : Shape) (xs secret random shares₀ shares : List ℕ) (i : ℕ) (given : Supplied s secret random) (turn : Turn s xs secret random shares₀ shares i) where
-  long : (j : ℕ) → length (dealtShare xs (s .t) secret random j) ≡ s .width
-  long j = length-share xs (s .t) secret random j ∙ sym (turn .room .station .share ∙ ap (width (s .t)) (sym (given .secret-long)))
+module _ (s : Shape) (day : ℕ) (xs secret random shares₀ shares : List ℕ) (i : ℕ) (given : Supplied s secret random) (turn : Turn s day xs secret random shares₀ shares i) where
+  long : (j : ℕ) → length (dealtShare xs (s .t) day secret random j) ≡ s .width
+  long j = length-share xs (s .t) day secret random j ∙ sym (turn .room .station .share ∙ ap (width (s .t)) (sym (given .secret-long)))
 
-  next : (after : List ℕ) → i < s .n → after ≡ stored s i 0 (dealtShare xs (s .t) secret random i) shares → Turn s xs secret random shares₀ after (i + 1)
+  next : (after : List ℕ) → i < s .n → after ≡ stored s i 0 (dealtShare xs (s .t) day secret random i) shares → Turn s day xs secret random shares₀ after (i + 1)
   next after h e =
       record {
-        room = room-kept s shares (dealtShare xs (s .t) secret random i) after (i * s .width + 0) (turn .room) e;
+        room = room-kept s shares (dealtShare xs (s .t) day secret random i) after (i * s .width + 0) (turn .room) e;
         joined =
-            joined-next (s .n) (s .width) (dealtShare xs (s .t) secret random) shares₀ 0 shares after i (i * s .width + 0) (λ j p. long j) h (turn .joined)
+            joined-next (s .n) (s .width) (dealtShare xs (s .t) day secret random) shares₀ 0 shares after i (i * s .width + 0) (λ j p. long j) h (turn .joined)
             (omega arith) e;
       }
 
-  last : s .n ≤ i → Room s shares₀ → shares ≡ dealtShares xs (s .t) secret random
+  last : s .n ≤ i → Room s shares₀ → shares ≡ dealtShares xs (s .t) day secret random
   unfolding dealtShares
   last h room =
-      let share : ℕ → List ℕ = dealtShare xs (s .t) secret random in
+      let share : ℕ → List ℕ = dealtShare xs (s .t) day secret random in
       joined-last (s .n) (s .width) share shares₀ 0 shares i h (turn .joined)
       ∙ sets-whole shares₀ (concat (tab (s .n) share)) (length-concat (s .n) (s .width) share (λ j p. long j) ∙ sym (room .long))
       ∙ ap (λ (n : ℕ). concat (tab n share)) (room .station .members)
 
 abbrev Inv-loop : tie.InvT-loop
-Inv-loop s points secret random shares₀ n i₀ shares i = Turn s points secret random shares₀ shares i
+Inv-loop s day points secret random shares₀ n i₀ shares i = Turn s day points secret random shares₀ shares i
 
 abbrev μ-loop : tie.MeasureT-loop
-μ-loop s points secret random shares₀ n i₀ shares i = n - i
+μ-loop s day points secret random shares₀ n i₀ shares i = n - i
 
 pub fill-shares-spec : {M : Type 1} → statement M
 fill-shares-spec =

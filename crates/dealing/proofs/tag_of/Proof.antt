@@ -6,17 +6,18 @@ use Prim.Native.Nat.{ℕ, _+_}
 use lib.ListN.{getD}
 use borrow.Author.Needs.{needs}
 use Rattle.mac.specs.Tag.{tag}
+use Rattle.shares.specs.Layout.{tagged}
 use Rattle.shares.specs.declared.Shape.{Shape}
 use Rattle.dealing.specs.Internal.Steps.{KeyAt, tagOf}
 use Rattle.dealing.proofs.Places.{α-there, β-there}
 use Rattle.dealing.proofs.tag_of.Statement.{statement}
 use Rattle.dealing.proofs.tag_of.Tie as tie
 
-under : (s : Shape) (i j place : ℕ) (random words : List ℕ) (r : ℕ) → KeyAt s j i place
-    → r ≡ tag (getD random place 0) (getD random (place + 1) 0) words → r ≡ tagOf (s .t) (s .d) random i words j
+under : (s : Shape) (day i j place : ℕ) (random words : List ℕ) (r : ℕ) → KeyAt s j i place
+    → r ≡ tag (getD random place 0) (getD random (place + 1) 0) (tagged day words) → r ≡ tagOf (s .t) (s .d) day random i words j
 unfolding tagOf
-under s i j place random words r at e =
-    e ∙ ap₂ (λ (a b : ℕ). tag a b words) (α-there s j i place random at) (β-there s j i place random at)
+under s day i j place random words r at e =
+    e ∙ ap₂ (λ (a b : ℕ). tag a b (tagged day words)) (α-there s j i place random at) (β-there s j i place random at)
 
 pub tag-of-spec : {M : Type 1} → statement M
 tag-of-spec =

@@ -8,6 +8,7 @@ use Rattle.lists.specs.Tabulate.{tab, concat}
 use Rattle.polynomial.specs.Polynomial.{value}
 use Rattle.mac.specs.Tag.{tag}
 use Rattle.members.specs.Members.{size}
+use Rattle.shares.specs.Layout.{tagged}
 use Rattle.shares.specs.declared.Shape.{Shape}
 use Rattle.dealing.specs.Dealing.{randomLength, polynomial, dealtα, dealtβ}
 
@@ -25,12 +26,12 @@ pub record KeyAt (s : Shape) (i j place : ℕ) : Type 0 where
 unfoldable pub wordsAt : ℕ → List ℕ → List ℕ → ℕ → List ℕ
 wordsAt t secret random x = tab (length secret) (λ k. value (polynomial t secret random k) x)
 
--- tag(i,j) of member i's share words, and tag(i,1) .. tag(i,n)
-unfoldable pub tagOf : ℕ → ℕ → List ℕ → ℕ → List ℕ → ℕ → ℕ
-tagOf t d random i words j = tag (dealtα t d random j i) (dealtβ t d random j i) words
+-- tag(i,j) of the day and member i's share words, and tag(i,1) .. tag(i,n)
+unfoldable pub tagOf : ℕ → ℕ → ℕ → List ℕ → ℕ → List ℕ → ℕ → ℕ
+tagOf t d day random i words j = tag (dealtα t d random j i) (dealtβ t d random j i) (tagged day words)
 
-unfoldable pub tagsOf : ℕ → ℕ → List ℕ → ℕ → List ℕ → List ℕ
-tagsOf t d random i words = tab (size t) (tagOf t d random i words)
+unfoldable pub tagsOf : ℕ → ℕ → ℕ → List ℕ → ℕ → List ℕ → List ℕ
+tagsOf t d day random i words = tab (size t) (tagOf t d day random i words)
 
 -- key(i,1) .. key(i,n)
 unfoldable pub keysOf : ℕ → ℕ → List ℕ → ℕ → List ℕ

@@ -1,4 +1,4 @@
--- The line is the letter D, t, d and the quorum.
+-- The line is the letter D, t, d, the quorum and the day.
 -- Assumes nothing.
 use Rattle.lists.specs.Ascii.{ascii}
 use borrow.Author.Needs.{needs}

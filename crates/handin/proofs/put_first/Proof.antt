@@ -1,4 +1,4 @@
--- The line is the letter D, t, d and the quorum.
+-- The line is the letter D, t, d, the quorum and the day.
 -- Assumes nothing.
 use mathlib.Core.List.{[], _∷_}
 use native.Mathlib.Omega.{arith}
@@ -19,6 +19,6 @@ put-first-spec =
     (λ c κs.
     unfold ascii in
     let entry : tie.Start = search in
-    omega (arith, entry .pre .1, length-from (68 ∷ []) (entry .args .s .t) (entry .args .s .d ∷ entry .args .quorum ∷ [])))
+    omega (arith, entry .pre .1, length-from (68 ∷ []) (entry .args .s .t) (entry .args .s .d ∷ entry .args .quorum ∷ entry .args .day ∷ [])))
     (λ c. search needs)
     (λ c. unfold ascii in search needs))

@@ -1,4 +1,4 @@
--- A first line that is a D line hands on its three numbers and the lines after it; any other is 22.
+-- A first line that is a D line hands on its four numbers and the lines after it; any other is 22.
 -- Assumes nothing.
 use mathlib.Core.Path.{refl, sym}
 use mathlib.Core.Logic.{inl, inr}

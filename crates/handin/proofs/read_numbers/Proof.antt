@@ -1,4 +1,4 @@
--- With t and d in range the P lines are taken in the shape for t and d, and their answer is the text's.
+-- With t, d and the day in range the P lines are taken in the shape for t and d, and their answer is the text's.
 -- Assumes nothing.
 use native.Mathlib.Omega.{arith}
 use borrow.Author.Needs.{needs}
@@ -7,7 +7,7 @@ use Rattle.lists.proofs.Bools.{fails, passes}
 use Rattle.shares.specs.Internal.Shape.{InRange, Station}
 use Rattle.shares.proofs.Shapes.{in-range, station-of}
 use Rattle.handin.proofs.Taking.{scratch-length}
-use Rattle.handin.proofs.Reading.{first-t, first-d, first-in}
+use Rattle.handin.proofs.Reading.{first-t, first-d, first-day, first-in}
 use Rattle.handin.proofs.read_numbers.Statement.{statement}
 use Rattle.handin.proofs.read_numbers.Tie as tie
 
@@ -27,17 +27,21 @@ read-numbers-spec =
     (λ c. omega (arith, c .shared-slice-known3 .given 0))
     (λ c. search needs)
     (λ c. omega (arith, c .shared-slice-known4 .given 1))
-    -- the two tests
+    -- the three tests
     (λ c κs. search needs)
     (λ c. search (fails, first-t))
     (λ c κs. search needs)
     (λ c. search (fails, passes, first-d))
+    (λ c. search needs)
+    (λ c κs. search needs)
+    (λ c. search (fails, passes, first-day))
     -- let s = shares::shape_of(t, d); let k = 1 + s.width;
     (λ c κs. search range)
     (λ c. let s : tie.After-shape-of = search in omega (arith, shape s .narrow))
-    -- take_lines(text, s, first[2], &mut scratch[..k], words)
+    -- take_lines(text, s, first[2], first[3], &mut scratch[..k], words)
     (λ c. search needs)
-    (λ c. let s : tie.After-shape-of = search in omega (arith, shape s .narrow))
+    (λ c. search needs)
+    (λ c. let (entry, s) : tie.Start × tie.After-shape-of = (search, search) in omega (arith, shape s .narrow, entry .pre .0))
     (λ c. search (scratch-length, shape))
     (λ c κs. (search shape, ((search (scratch-length, shape), search needs), search needs)))
     (λ c. search needs)

@@ -16,13 +16,13 @@ use Rattle.handin.proofs.take_lines.Statement.{statement}
 use Rattle.handin.proofs.take_lines.Tie as tie
 
 abbrev Inv-loop : tie.InvT-loop
-Inv-loop text s quorum scratch₀ words₀ present₀ rest₀ scratch words present rest =
+Inv-loop text s quorum day scratch₀ words₀ present₀ rest₀ scratch words present rest =
     (length scratch ≡ length scratch₀)
     × ((length words ≡ length words₀)
     × ((length rest ≤ length text) × Reached (s .t) (s .d) (takeLines (s .t) (s .d) [] (parts 10 text)) rest present words))
 
 abbrev μ-loop : tie.MeasureT-loop
-μ-loop text s quorum scratch₀ words₀ present₀ rest₀ scratch words present rest = length rest
+μ-loop text s quorum day scratch₀ words₀ present₀ rest₀ scratch words present rest = length rest
 
 pub take-lines-spec : {M : Type 1} → statement M
 take-lines-spec =
@@ -48,7 +48,7 @@ take-lines-spec =
     (λ c.
     let (at-loop, at-scan, ended) : tie.At-loop Inv-loop μ-loop × tie.After-scan Inv-loop μ-loop × tie.Else1 Inv-loop μ-loop = (search, search, search) in
     let (taken, told) : tie.After-take-line Inv-loop μ-loop × tie.After-k Inv-loop μ-loop = (search, search) in
-    answer-refused _ _ _ _ _ _ _ _ (taken .take-line .kept .1 .1 .1 .1 .0) (at-loop .loop .inv .1 .0)
+    answer-refused _ _ _ _ _ _ _ _ _ (taken .take-line .kept .1 .1 .1 .1 .0) (at-loop .loop .inv .1 .0)
     (reached-refused (at-loop .loop .inv .1 .1 .1) _ (at-scan .scan .ensures) (ended .if1 .left) _ _ (taken .take-line .ensures) _ (told .k .given .1)))
     -- rest = &rest[e + 1..];
     (λ c. search needs)

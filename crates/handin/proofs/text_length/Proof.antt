@@ -17,7 +17,7 @@ text-length-spec =
     let (entry, words, first) : tie.Start × tie.After-shared-slice-known × tie.After-first-length = (search, search, search) in
     omega (
       arith,
-      text-fits _ _ (entry .pre) (λ k. omega (arith, words .shared-slice-known .given k)) _ _ _ _ (omega arith)
+      text-fits _ _ (entry .pre) (λ k. omega (arith, words .shared-slice-known .given k)) _ _ (omega arith) _ (omega arith) _ _
           (first .first-length .ensures) (c .shares-length .ensures),
     ))
     (λ c. search text-length))

@@ -5,7 +5,7 @@ use Rattle.lists.proofs.Bools.{fails, passes}
 use Rattle.shares.specs.Internal.Shape.{InRange, Station}
 use Rattle.shares.proofs.Shapes.{in-range, station-of}
 use Rattle.shares.proofs.Tests.{wrong-length, right-length, beyond-n, within-n}
-use Rattle.handin.proofs.WriterChecks.{wrote-1, wrote-2, wrote-11, wrote-12, goes-on}
+use Rattle.handin.proofs.WriterChecks.{wrote-1, wrote-2, wrote-32, wrote-11, wrote-12, goes-on}
 use borrow.Author.Needs.{needs}
 use Rattle.handin.proofs.write.Statement.{statement}
 use Rattle.handin.proofs.write.Tie as tie
@@ -27,6 +27,9 @@ write-spec =
     -- if !lists::within(1, 64, d) { return Wrote::Refused(2); }
     (λ c κs. search needs)
     (λ c. search (wrote-2, fails, passes))
+    -- if !shares::is_day(day) { return Wrote::Refused(32); }
+    (λ c κs. search needs)
+    (λ c. search (wrote-32, fails, passes))
     -- let s = shares::shape_of(t, d);
     (λ c κs. search range)
     -- if shares.len() != s.n * s.width { return Wrote::Refused(11); }
@@ -35,7 +38,7 @@ write-spec =
     -- if members::first(s.n) < present { return Wrote::Refused(12); }
     (λ c κs. search needs)
     (λ c. search (wrote-12, passes, right-length, beyond-n, range))
-    -- write_text(s, quorum, present, shares, text)
+    -- write_text(s, quorum, day, present, shares, text)
     (λ c κs. record { station = shape (search); long = search needs })
     (λ c. search needs)
     (λ c. search (goes-on, passes, right-length, within-n, range)))

@@ -9,10 +9,10 @@ pub write-text-spec : {M : Type 1} → statement M
 write-text-spec =
     tie.close
     (tie.spec
-    -- if text.len() < text_length(s, quorum, present, shares) { return Wrote::Refused(31); }
+    -- if text.len() < text_length(s, quorum, day, present, shares) { return Wrote::Refused(31); }
     (λ c κs. search needs)
     (λ c. search too-long)
-    -- let at = put_first(s, quorum, text);
+    -- let at = put_first(s, quorum, day, text);
     (λ c κs. (search needs, search first-fits))
     -- Wrote::Bytes(put_shares(s, present, shares, text, at))
     (λ c κs. (search needs, search shares-fit))

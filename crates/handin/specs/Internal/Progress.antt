@@ -26,5 +26,5 @@ Comes t d result (Refused k) words = result ≡ refused (refusal k)
 
 -- the buffer, filled with 0 on a refusal
 unfoldable pub cleared : Outcome → List ℕ → List ℕ
-cleared (outcome.Accepted t d quorum present) words = words
+cleared (outcome.Accepted t d quorum day present) words = words
 cleared (outcome.Refused k) words = replicate (length words) 0

@@ -11,7 +11,7 @@ open-by-votes-spec =
     (tie.spec
     -- let able = voting::usable_members(s, present, shares)
     (λ c κs. search needs)
-    -- let pairs = voting::fill_rows(s, able, shares, rows)
+    -- let pairs = voting::fill_rows(s, day, able, shares, rows)
     (λ c κs. search needs)
     -- Reconstructed { outcome: open_voted(s, quorum, able, rows, shares, secret), pairs }
     (λ c κs. (search needs, (search votes-voted, search needs)))

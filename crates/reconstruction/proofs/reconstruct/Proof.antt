@@ -4,7 +4,7 @@ use native.Mathlib.Omega.{arith}
 use lib.ListN.{length}
 use borrow.Author.Needs.{needs}
 use Rattle.shares.specs.Internal.Shape.{InRange, Station}
-use Rattle.reconstruction.proofs.Order.{ranged, shape-station, shape-length, refused-1, refused-2, refused-11, refused-12, refused-13, goes-on}
+use Rattle.reconstruction.proofs.Order.{ranged, shape-station, shape-length, refused-1, refused-2, refused-32, refused-11, refused-12, refused-13, goes-on}
 use Rattle.reconstruction.proofs.reconstruct.Statement.{statement}
 use Rattle.reconstruction.proofs.reconstruct.Tie as tie
 
@@ -32,6 +32,11 @@ reconstruct-spec =
     (λ c κs. search needs)
     (λ c. search needs)
     (λ c. search refused-2)
+    -- if !shares::is_day(day) { return turn_away(secret, 32) }
+    (λ c κs. search needs)
+    (λ c κs. search needs)
+    (λ c. search needs)
+    (λ c. search refused-32)
     -- let s = shares::shape_of(t, d)
     (λ c κs. passed (search))
     -- if shares.len() != s.n * s.width { return turn_away(secret, 11) }
@@ -49,7 +54,7 @@ reconstruct-spec =
     (λ c κs. search needs)
     (λ c. search needs)
     (λ c. search refused-13)
-    -- open_shares(s, present, quorum, shares, secret)
+    -- open_shares(s, day, present, quorum, shares, secret)
     (λ c κs. (record { station = station (search); long = search needs }, search shape-length))
     (λ c. search needs)
     (λ c. search goes-on))

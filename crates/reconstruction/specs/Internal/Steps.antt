@@ -38,7 +38,7 @@ abbrev pub byVotes : Shape → ℕ → ℕ → List ℕ → List ℕ → Opened
 byVotes s quorum able rows words = finish (ownPoints (s .t)) (s .t) (s .d) quorum able rows (shareWord (s .t) (s .d) words)
 
 -- and with the votes of the shares themselves, and their counts
-abbrev pub byShares : Shape → ℕ → ℕ → List ℕ → Answered
-byShares s present quorum words =
+abbrev pub byShares : Shape → ℕ → ℕ → ℕ → List ℕ → Answered
+byShares s day present quorum words =
     let able : ℕ = usable (s .t) (s .d) present words in
-    record { opened = byVotes s quorum able (voteRows (s .t) (s .d) able words) words; pairs = pairs (s .t) (s .d) able words }
+    record { opened = byVotes s quorum able (voteRows (s .t) (s .d) day able words) words; pairs = pairs (s .t) (s .d) day able words }

@@ -1,5 +1,6 @@
 -- What the reader answers is printed: its shares are opened, or its refusal is told.
 -- Assumes nothing.
+use Rattle.shares.proofs.Shapes.{station-of}
 use Rattle.text.proofs.Writing.{written-as}
 use Rattle.report.proofs.Reading.{accepted-range, prints-accepted, prints-unread}
 use borrow.Author.Needs.{needs}
@@ -12,7 +13,8 @@ print-text-spec =
     (tie.spec
     (λ c κs. search needs)
     (λ c. search needs)
-    (λ c κs. (search accepted-range, (search needs, (search needs, search needs))))
+    (λ c κs. search accepted-range)
+    (λ c κs. (search (station-of, accepted-range), (search needs, (search needs, search needs))))
     (λ c. search needs)
     (λ c κs. search needs)
     (λ c. search needs)

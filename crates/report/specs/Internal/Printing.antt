@@ -12,5 +12,5 @@ unfoldable pub wordLines : List ℕ → List ℕ
 wordLines secret = concat (tab (length secret) (wordLine secret))
 
 -- what the answer of opening prints
-unfoldable pub opening : ℕ → ℕ → ℕ → ℕ → List ℕ → List ℕ
-opening t d present quorum words = printOpened d (reconstruct t d present quorum words .opened)
+unfoldable pub opening : ℕ → ℕ → ℕ → ℕ → ℕ → List ℕ → List ℕ
+opening t d day present quorum words = printOpened d (reconstruct t d day present quorum words .opened)

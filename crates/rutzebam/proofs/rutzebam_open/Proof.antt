@@ -16,8 +16,8 @@ rutzebam-open-spec =
     (λ c. search needs)
     (λ c.
     let (answer, told) : tie.After-reconstruct × tie.After-store-pairs = (search, search) in
-    opens _ _ _ _ _ _ (answer .reconstruct .result) (answer .reconstruct .ensures) _ (told .store-pairs .ensures) _ _ (search))
+    opens _ _ _ _ _ _ _ (answer .reconstruct .result) (answer .reconstruct .ensures) _ (told .store-pairs .ensures) _ _ (search))
     (λ c. search needs)
     (λ c.
     let (answer, told) : tie.After-reconstruct × tie.After-store-pairs = (search, search) in
-    open-refuses _ _ _ _ _ _ (answer .reconstruct .result) (answer .reconstruct .ensures) _ (told .store-pairs .ensures) _ _ (search)))
+    open-refuses _ _ _ _ _ _ _ (answer .reconstruct .result) (answer .reconstruct .ensures) _ (told .store-pairs .ensures) _ _ (search)))

@@ -8,10 +8,10 @@ use Rattle.voting.proofs.fill_rows.Statement.{statement}
 use Rattle.voting.proofs.fill_rows.Tie as tie
 
 abbrev Inv-loop : tie.InvT-loop
-Inv-loop s able shares rows₀ pairs₀ i₀ rows pairs i = Filling s able shares rows pairs i
+Inv-loop s day able shares rows₀ pairs₀ i₀ rows pairs i = Filling s day able shares rows pairs i
 
 abbrev μ-loop : tie.MeasureT-loop
-μ-loop s able shares rows₀ pairs₀ i₀ rows pairs i = s .n - i
+μ-loop s day able shares rows₀ pairs₀ i₀ rows pairs i = s .n - i
 
 -- the places of the code that the answers below name
 abbrev Start : Type 0
@@ -32,7 +32,7 @@ fill-rows-spec =
     -- let mut pairs = no_pairs()
     (λ c κs. search needs)
     (λ c. search filling-first)
-    -- let at = row(s, able, shares, i)
+    -- let at = row(s, day, able, shares, i)
     (λ c κs. let loop : Loop = search in (search needs, omega (arith, loop .loop .inv .written .long)))
     -- rows[i] = at.row
     (λ c. omega arith)

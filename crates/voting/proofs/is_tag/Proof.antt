@@ -1,4 +1,4 @@
--- `voting::is_tag`: it compares with the tag that `mac::tag` makes of the same words.
+-- `voting::is_tag`: it compares with the tag that `mac::tag_with_first` makes of the same words.
 -- Assumes nothing.
 use borrow.Author.Needs.{needs}
 use Rattle.voting.proofs.Places.{tag-part}
@@ -9,7 +9,7 @@ pub is-tag-spec : {M : Type 1} → statement M
 is-tag-spec =
     tie.close
     (tie.spec
-    -- let expected = mac::tag(shares[key], shares[key + 1], &shares[own..own + d])
+    -- let expected = mac::tag_with_first(shares[key], shares[key + 1], day, &shares[own..own + d])
     (λ c. search needs)
     (λ c. search needs)
     (λ c. search needs)

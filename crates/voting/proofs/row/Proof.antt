@@ -9,10 +9,10 @@ use Rattle.voting.proofs.row.Statement.{statement}
 use Rattle.voting.proofs.row.Tie as tie
 
 abbrev Inv-loop : tie.InvT-loop
-Inv-loop s able shares i at₀ j₀ at j = Counting (λ k. vote (s .t) (s .d) able shares k i) (s .n) at j
+Inv-loop s day able shares i at₀ j₀ at j = Counting (λ k. vote (s .t) (s .d) day able shares k i) (s .n) at j
 
 abbrev μ-loop : tie.MeasureT-loop
-μ-loop s able shares i at₀ j₀ at j = s .n - j
+μ-loop s day able shares i at₀ j₀ at j = s .n - j
 
 pub row-spec : {M : Type 1} → statement M
 unfolding accepts
@@ -24,7 +24,7 @@ row-spec =
     -- let mut at = Counted { row: 0, pairs: no_pairs() }
     (λ c κs. search needs)
     (λ c. search counting-first)
-    -- while j < s.n { at = add_vote(at, test_tag(s, able, shares, i, j), j); j = j + 1 }
+    -- while j < s.n { at = add_vote(at, test_tag(s, day, able, shares, i, j), j); j = j + 1 }
     (λ c κs. search needs)
     (λ c κs. let loop : tie.At-loop Inv-loop μ-loop = search in counting-room _ _ _ _ (omega arith) (omega arith) (loop .loop .inv))
     (λ c. omega arith)

@@ -15,7 +15,7 @@ test-tag-spec =
     -- if !members::has(able, j) { return Vote::Unread }
     (λ c κs. search needs)
     (λ c. search unusable-voter)
-    -- if !tag_holds(s, shares, i, j) { return Vote::Mismatched }
+    -- if !tag_holds(s, day, shares, i, j) { return Vote::Mismatched }
     (λ c κs. search needs)
     (λ c. search tag-mismatched)
     -- Vote::Accepted
