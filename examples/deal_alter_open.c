@@ -74,8 +74,8 @@ static int opens_with_one_unreadable(uint16_t *shares, const uint16_t *secret)
     return done;
 }
 
-/* Opens the shares of all members for the next day: 1 if that refuses with 15, since no tag is that of
-   another day, and gives nothing away. */
+/* Opens the shares of all members for the next day: 1 if that refuses with 15, since under these keys
+   no tag is that of another day, with both masks 0 and every word of the secret 65535. */
 static int refuses_for_another_day(const uint16_t *shares)
 {
     uint16_t opened[D], pairs[3];

@@ -251,8 +251,8 @@ fn must_open_with_one_unreadable(shares: &[u16], secret: &[u16]) -> Result<(), S
     must_open(ALL, 0, &shares, secret, ALL - 16, [16, 0, 9])
 }
 
-/// Opens the shares of all members for the next day: an error unless that refuses with 15, since no
-/// tag is that of another day.
+/// Opens the shares of all members for the next day: an error unless that refuses with 15, since under
+/// these keys no tag is that of another day.
 fn must_refuse_for_another_day(shares: &[u16]) -> Result<(), String> {
     match open(T, D, DAY + 1, ALL, 0, shares) {
         Err((15, 0, [0, 25, 0])) => println!("opening for another day: 15"),

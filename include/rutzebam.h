@@ -14,10 +14,10 @@
    A day is a number that dealing and opening have to have in common, 1 to 65520. How days are counted
    is up to the station: a number that comes again does not tell the two days apart.
 
-   0 from rutzebam_open does not say that this is the secret that was dealt. It is, where survivors
-   with share words as dealt are at least t + 1 more than survivors with altered ones. Otherwise, from
-   t = 2 on, t members who know keys and shares of others can make it open to another secret, beside
-   t + 1 shares as dealt. So open once and compare before the readings are deleted, ask for a large
+   0 from rutzebam_open does not say that this is the secret that was dealt. It is, where at least t + 1
+   shares are as dealt for the day of the opening, and survivors with share words as dealt are at least
+   t + 1 more than survivors with altered ones. Otherwise, from t = 2 on, t members who know keys and
+   shares of others can make it open to another secret, beside t + 1 shares as dealt. So open once and compare before the readings are deleted, ask for a large
    quorum, and look at the masks: where k survivors agree, another secret takes k - t altered shares or
    more. After 16 do not try again with fewer members: t + 1 survivors always open, to something.
 
@@ -123,8 +123,8 @@ uint16_t rutzebam_deal(size_t t, uint16_t day,
    altered, or dealt for another day, mismatched pairs where tags no longer fit. 0 mismatched does not
    say that nothing was altered. The counts are 0 after 1, 2, 32, 11, 12 and 13; else they are the true
    ones, after 14, 15 and 16 too, and add up to n * n.
-   Shares that were all dealt for one other day are refused with 15, unless keys among them have 0 as
-   their first word, which one of 65521 random words is: docs/RULES.md, 'Another day'.
+   Shares of one dealing for another day, as many as meet the quorum, are refused with 15, unless keys
+   among them have 0 as their first word, as one key in 65521 has: docs/RULES.md, 'Another day'.
    1: t. 2: the secret's length. 32: the day. 11: how many words of shares. 12: a member beyond n is
    present. 13: the quorum is neither 0 nor t + 1 to n. 14: the quorum is not met. 15: no survivors.
    16: too few survivors agree. On a refusal every word of the secret is 65535, at whatever length it
@@ -153,7 +153,7 @@ uint16_t rutzebam_tag(uint16_t alpha, uint16_t beta, const uint16_t *words, size
 
 /* Reads hand-in text. `words` gets the shares in member order, then zeros; what rutzebam_open takes
    is its first RUTZEBAM_SHARES_WORDS(*t, *d) words, with *day, *present and *quorum. The day is the one
-   that the text names: what it has to be, the caller has to know.
+   that the text names: see whether it is the one that is wanted before you open.
    25: not 4867 words. 21: more than 40000 bytes. 22: the first line. 23: a line's shape.
    24: a line's member. On a refusal every word, at whatever length there is, and every number is 0. */
 uint16_t rutzebam_read(const uint8_t *text, size_t text_len,

@@ -133,7 +133,7 @@ dealt-anywhere xs t day present quorum secret random words points secret-words r
     sound xs (points-distinct points) t day (points .long) secret random (field-words secret secret-words) (field-words random random-words)
     present quorum words met honest many as-dealt
 
--- what an accepted dealing says: t and d are in range, and the dealt words are the definition's
+-- what an accepted dealing says: t, d and the day are in range, and the dealt words are the definition's
 module _ (t day : ℕ) (secret random dealt : List ℕ) (dealing : Dealing t day secret random dealt) where
   pub in-range : Acceptable t day secret random (dealing .buffer)
   in-range = accepted-in-range t day secret random (dealing .buffer) (ap (λ (a : Dealt). a .number) (dealing .accepted))

@@ -1,4 +1,4 @@
--- Shares of another day (document 02, W-205): they are refused with 15. Proved in proofs/Days.antt.
+-- Shares of one dealing for another day (document 02, W-205): with no α equal to 0 they are refused with 15. Proved in proofs/Days.antt.
 use Prim.Native.Nat.{ℕ, _-_, _*_, _<_}
 use mathlib.Core.Path.{_≡_}
 use mathlib.Core.Bool.{true}

@@ -1,4 +1,4 @@
--- The three counts of votes in opening's answer (document 02, W-204). Proved in proofs/Pairs.antt.
+-- The three counts of votes in opening's answer (document 02, W-204; 32 is W-205's). Proved in proofs/Pairs.antt.
 use Prim.Native.Nat.{ℕ, _+_, _-_, _*_}
 use mathlib.Core.Path.{_≡_}
 use mathlib.Core.Bool.{Bool, true, false, _||_}

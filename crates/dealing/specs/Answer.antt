@@ -1,4 +1,4 @@
--- What the code's answer says: document 01's number, and the share buffer at exit.
+-- What the code's answer says: the documents' number, and the share buffer at exit.
 -- Assumes nothing.
 use Prim.Native.Nat.{ℕ}
 use mathlib.Core.List.{List}

@@ -3,7 +3,7 @@ use Prim.Native.Nat.{ℕ}
 use mathlib.Core.Path.{_≡_}
 use mathlib.Core.List.{List, [], _∷_, _++_}
 use lib.ListN.{replicate}
-use Rattle.shares.specs.Sample.{sample, keyless}
+use Rattle.shares.specs.Sample.{sample, daySeven, keyless}
 use Rattle.dealing.specs.Dealing.{Dealt, deal}
 
 abbrev pub dealt : List ℕ → Dealt
@@ -25,11 +25,11 @@ random5 = 3 ∷ 1 ∷ 1 ∷ 1 ∷ 2 ∷ 1 ∷ 3 ∷ 2 ∷ 1 ∷ 2 ∷ 2 ∷ 2 �
 abbrev pub C5 : Type 0
 C5 = deal 1 1 (250 ∷ []) random5 (buffer 30) ≡ dealt (sample 259)
 
--- C10's shares: C5 dealt with all keys 0, for whatever day
+-- C10's shares: C5 dealt with all keys 0
 abbrev pub C10Dealt : Type 0
 C10Dealt = deal 1 1 (250 ∷ []) (3 ∷ replicate 18 0) (buffer 30) ≡ dealt (keyless 259)
 
--- t = 2, d = 2, with unequal coefficients and keys: (100, 7, 65520) and (65520, 11, 13)
+-- t = 2, d = 2, for the last day, with unequal coefficients and keys: (100, 7, 65520) and (65520, 11, 13)
 abbrev pub random22 : List ℕ
 random22 =
     7 ∷ 65520 ∷ 11 ∷ 13 ∷ 3 ∷ 25 ∷ 81 ∷ 171 ∷ 295 ∷ 453
@@ -41,16 +41,18 @@ random22 =
 
 abbrev pub shares22 : List ℕ
 shares22 =
-    106 ∷ 23 ∷ 1603 ∷ 18155 ∷ 29920 ∷ 52876 ∷ 59106 ∷ 3 ∷ 25 ∷ 81 ∷ 171 ∷ 295 ∷ 453 ∷ 645 ∷ 871 ∷ 1131 ∷ 1425
-    ∷ 110 ∷ 73 ∷ 7992 ∷ 34374 ∷ 35587 ∷ 50515 ∷ 38308 ∷ 1753 ∷ 2115 ∷ 2511 ∷ 2941 ∷ 3405 ∷ 3903 ∷ 4435 ∷ 5001 ∷ 5601 ∷ 6235
-    ∷ 112 ∷ 149 ∷ 52814 ∷ 14726 ∷ 54105 ∷ 44768 ∷ 51858 ∷ 6903 ∷ 7605 ∷ 8341 ∷ 9111 ∷ 9915 ∷ 10753 ∷ 11625 ∷ 12531 ∷ 13471 ∷ 14445
-    ∷ 112 ∷ 251 ∷ 789 ∷ 44267 ∷ 20307 ∷ 33679 ∷ 38404 ∷ 15453 ∷ 16495 ∷ 17571 ∷ 18681 ∷ 19825 ∷ 21003 ∷ 22215 ∷ 23461 ∷ 24741 ∷ 26055
-    ∷ 110 ∷ 379 ∷ 7609 ∷ 14895 ∷ 43427 ∷ 10248 ∷ 23595 ∷ 27403 ∷ 28785 ∷ 30201 ∷ 31651 ∷ 33135 ∷ 34653 ∷ 36205 ∷ 37791 ∷ 39411 ∷ 41065 ∷ []
+    106 ∷ 23 ∷ 1597 ∷ 14649 ∷ 16114 ∷ 21970 ∷ 4300 ∷ 3 ∷ 25 ∷ 81 ∷ 171 ∷ 295 ∷ 453 ∷ 645 ∷ 871 ∷ 1131 ∷ 1425
+    ∷ 110 ∷ 73 ∷ 7830 ∷ 29352 ∷ 18905 ∷ 15373 ∷ 43427 ∷ 1753 ∷ 2115 ∷ 2511 ∷ 2941 ∷ 3405 ∷ 3903 ∷ 4435 ∷ 5001 ∷ 5601 ∷ 6235
+    ∷ 112 ∷ 149 ∷ 52224 ∷ 7916 ∷ 34275 ∷ 5118 ∷ 51109 ∷ 6903 ∷ 7605 ∷ 8341 ∷ 9111 ∷ 9915 ∷ 10753 ∷ 11625 ∷ 12531 ∷ 13471 ∷ 14445
+    ∷ 112 ∷ 251 ∷ 65020 ∷ 35397 ∷ 62578 ∷ 54770 ∷ 31515 ∷ 15453 ∷ 16495 ∷ 17571 ∷ 18681 ∷ 19825 ∷ 21003 ∷ 22215 ∷ 23461 ∷ 24741 ∷ 26055
+    ∷ 110 ∷ 379 ∷ 5347 ∷ 3693 ∷ 16485 ∷ 26287 ∷ 10294 ∷ 27403 ∷ 28785 ∷ 30201 ∷ 31651 ∷ 33135 ∷ 34653 ∷ 36205 ∷ 37791 ∷ 39411 ∷ 41065 ∷ []
 
 pub record Examples : Type 0 where
   pub c5 : C5
+  -- the same for day 7
+  pub c5-day-7 : deal 1 7 (250 ∷ []) random5 (buffer 30) ≡ dealt daySeven
   pub c10-dealt : C10Dealt
-  pub full-degree : deal 2 1 (100 ∷ 65520 ∷ []) random22 (buffer 85) ≡ dealt shares22
+  pub full-degree : deal 2 65520 (100 ∷ 65520 ∷ []) random22 (buffer 85) ≡ dealt shares22
   -- an input with two faults gets the earlier number, and the buffer stays
   pub threshold-before-length : deal 0 1 [] [] (buffer 3) ≡ left 1 (buffer 3)
   pub threshold-16-before-length : deal 16 1 [] [] (buffer 3) ≡ left 1 (buffer 3)

@@ -12,7 +12,7 @@ ghost use Rattle.dealing.specs.Dealing.{randomLength, dealtShare, dealtS
 ghost use Rattle.dealing.specs.Internal.Steps.{Supplied, KeyAt, wordsAt, tagOf, tagsOf, keysOf};
 ghost use Rattle.dealing.specs.Answer.{answerOf};
 
-// Dealt, or refused with document 01's number.
+// Dealt, or refused with the documents' number.
 pub enum Outcome {
     Dealt,
     Refused(u16),

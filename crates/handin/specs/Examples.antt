@@ -72,7 +72,9 @@ pub record Examples : Type 0 where
   pub d-0 : refuses 22 (ascii "D\t1\t0\t0\t1\n")
   pub d-65 : refuses 22 (ascii "D\t1\t65\t0\t1\n")
   -- the day is missing, not 1 to 65520, no numeral, not the last field: 22
-  pub no-day : refuses 22 (ascii "D\t1\t1\t0\n")
+  pub no-day :
+      read (ascii "D\t1\t1\t0\n") capacity
+      ≡ record { number = 22; t = 0; d = 0; quorum = 0; day = 0; present = 0; words = replicate 4867 0 }
   pub day-0 : refuses 22 (ascii "D\t1\t1\t0\t0\n")
   pub day-65521 : refuses 22 (ascii "D\t1\t1\t0\t65521\n")
   pub day-65535 : refuses 22 (ascii "D\t1\t1\t0\t65535\n")

@@ -124,18 +124,20 @@ fn read_numbers(text: &[u8], first: &[u16], scratch: &mut [u16], words: &mut [u1
 {
     let t = first[0] as usize;
     let d = first[1] as usize;
+    let quorum = first[2];
+    let day = first[3];
     if !members::threshold(t) {
         return Outcome::Refused(22);
     }
     if !lists::within(1, 64, d) {
         return Outcome::Refused(22);
     }
-    if !shares::is_day(first[3]) {
+    if !shares::is_day(day) {
         return Outcome::Refused(22);
     }
     let s = shares::shape_of(t, d);
     let k = 1 + s.width;
-    take_lines(text, s, first[2], first[3], &mut scratch[..k], words)
+    take_lines(text, s, quorum, day, &mut scratch[..k], words)
 }
 
 // A text's first line, which a byte 10 ends, and the lines after it.

@@ -30,8 +30,8 @@ tag-step α β ms =
 pub tag-from : (α β e r : ℕ) (ms : List ℕ) → r ≡ sum β (product α e) → e ≡ value ms α → r ≡ tag α β ms
 tag-from α β e r ms er ee = er ∙ ap (λ (v : ℕ). sum β (product α v)) ee ∙ tag-step α β ms
 
--- the first word at power 1 and the rest from power 2 on, as the code adds them: two of its four products are 0
-pub tag-two : (α β a s v r : ℕ) (ms : List ℕ) → s ≡ product α α → v ≡ value ms α → r ≡ (β + α * a + s * v + 0 * 0 + 0 * 0) % prime → r ≡ tag α β (a ∷ ms)
+-- the first word at power 1 and the rest from power 2 on, as the code adds them
+pub tag-two : (α β a s v r : ℕ) (ms : List ℕ) → s ≡ product α α → v ≡ value ms α → r ≡ (β + α * a + s * v) % prime → r ≡ tag α β (a ∷ ms)
 unfolding eval
 tag-two α β a s v r ms es ev er =
     let x : ℕ = eval ms α in
@@ -39,9 +39,8 @@ tag-two α β a s v r ms es ev er =
     let rest : s * v ≈ α * α * x = square ⊗ same-trans (same-eq ev) (value-same ms α) in
     let sum : β + α * a + s * v ≈ β + α * a + α * α * x = same-refl {a = β + α * a} ⊕ rest in
     er
-    ∙ eq-same (mod-word (β + α * a + s * v + 0 * 0 + 0 * 0)) (tag-word α β (a ∷ ms))
-    (same-trans (reduced (β + α * a + s * v + 0 * 0 + 0 * 0))
-    (same-trans (same-eq (omega arith)) (same-trans sum (same-trans (same-eq (omega arith)) (same-sym (tag-same α β (a ∷ ms)))))))
+    ∙ eq-same (mod-word (β + α * a + s * v)) (tag-word α β (a ∷ ms))
+    (same-trans (reduced (β + α * a + s * v)) (same-trans sum (same-trans (same-eq (omega arith)) (same-sym (tag-same α β (a ∷ ms))))))
 
 -- words that differ in the first alone have the same tag only if the first ones are the same modulo p, or α is 0
 pub tag-first : (α β a b : ℕ) (ms : List ℕ) → (α ≈ 0 → ⊥) → tag α β (a ∷ ms) ≡ tag α β (b ∷ ms) → a ≈ b

@@ -16,5 +16,5 @@ pub fn tag_with_first(alpha: u16, beta: u16, first: u16, rest: &[u16]) -> u16
 {
     let square = field::multiply(alpha, alpha);
     let value = polynomial::evaluate(rest, alpha);
-    field::add_four_products(beta, alpha, first, square, value, 0, 0, 0, 0)
+    field::add_two_products(beta, alpha, first, square, value)
 }

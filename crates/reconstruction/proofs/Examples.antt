@@ -7,7 +7,7 @@ use Rattle.polynomial.specs.Polynomial.{eval, value, linear, slopes, interpolat
 use Rattle.mac.specs.Tag.{tag}
 use Rattle.members.specs.Members.{size, ownPoints, bit, has, setOf, card, membersOf}
 use Rattle.shares.specs.Layout.{width, word, shareWords, tagWord, keyα, keyβ}
-use Rattle.shares.specs.Sample.{sample, keyless}
+use Rattle.shares.specs.Sample.{sample, daySeven, keyless}
 use Rattle.pruning.specs.Pruning.{votes, round, rounds, survivors}
 use Rattle.decoding.specs.Decoding.{surplus, need, agreeing, through, find}
 use Rattle.voting.specs.Votes.{fieldShare, usable, tagHolds, vote, isOf, accepts, voteRows, voteTable, countOf, kinds, pairs}
@@ -16,7 +16,7 @@ use Rattle.reconstruction.specs.Examples.{Examples}
 
 pub examples : Examples
 unfolding tab all count keep first concat choose difference product power inverse eval value linear slopes interpolate size ownPoints bit has setOf
-    card membersOf surplus need agreeing through find tag width word shareWords tagWord keyα keyβ sample keyless votes round rounds survivors
+    card membersOf surplus need agreeing through find tag width word shareWords tagWord keyα keyβ sample daySeven keyless votes round rounds survivors
     fieldShare usable tagHolds vote isOf accepts voteRows voteTable countOf kinds pairs unopened isQuorum required atZero openedFrom finish turnedAway
     reconstruct
 examples =
@@ -43,6 +43,7 @@ examples =
       day-65520 = refl;
       day-65521 = refl;
       day-65522 = refl;
+      day-7 = refl;
       another-day = refl;
       threshold-before-length = refl;
       threshold-16-before-length = refl;

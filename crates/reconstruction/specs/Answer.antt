@@ -9,7 +9,7 @@ use Rattle.reconstruction.specs.declared.Reconstructed.{Reconstructed}
 use Rattle.voting.specs.Answer.{pairsOf}
 use Rattle.reconstruction.specs.Reconstruction.{Opened, Answered}
 
--- document 01's number and masks, with the secret buffer at exit; only 16 is refused with survivors
+-- the documents' number, and document 01's masks, with the secret buffer at exit; only 16 is refused with survivors
 abbrev pub answerOf : Outcome → List ℕ → Opened
 answerOf (Open survived agreed) words = record { number = 0; survivors = survived; agreeing = agreed; secret = words }
 answerOf (Refused number survived) words = record { number = refusal number; survivors = survived; agreeing = 0; secret = words }

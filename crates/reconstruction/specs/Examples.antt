@@ -3,7 +3,7 @@ use Prim.Native.Nat.{ℕ}
 use mathlib.Core.Path.{_≡_}
 use mathlib.Core.List.{List, [], _∷_}
 use lib.ListN.{set, replicate}
-use Rattle.shares.specs.Sample.{sample, keyless}
+use Rattle.shares.specs.Sample.{sample, daySeven, keyless}
 use Rattle.voting.specs.Examples.{second, unaccepted, tally}
 use Rattle.voting.specs.Votes.{Pairs}
 use Rattle.reconstruction.specs.Reconstruction.{unopened, required, Answered, turnedAway, reconstruct}
@@ -75,7 +75,8 @@ pub record Examples : Type 0 where
   pub day-65520 : reconstruct 1 1 65520 7 0 (keyless 259) ≡ opened 7 7 (tally 9 0 0) (250 ∷ [])
   pub day-65521 : reconstruct 1 1 65521 7 0 (keyless 259) ≡ turnedAway 1 32
   pub day-65522 : reconstruct 1 1 65522 7 0 (sample 259) ≡ turnedAway 1 32
-  -- another day's shares: no tag holds, so nobody survives
+  -- shares of day 7, for that day; and another day's shares: no tag holds, so nobody survives
+  pub day-7 : reconstruct 1 1 7 7 0 daySeven ≡ opened 7 7 (tally 9 0 0) (250 ∷ [])
   pub another-day : reconstruct 1 1 2 7 0 (sample 259) ≡ refusedWith 1 0 (tally 0 9 0) 15
   -- an input with two faults gets the earlier number; a refusal before the votes counts none, one after them the true ones
   pub threshold-before-length : reconstruct 0 0 1 0 0 [] ≡ turnedAway 0 1

@@ -19,7 +19,7 @@ ghost use Rattle.reconstruction.specs.Answer.{answerOf, answeredOf};
 ghost use Rattle.reconstruction.specs.Reconstruction.{unopened, isQuorum, required, turnedAway, reconstruct as reconstructOf};
 ghost use Rattle.reconstruction.specs.Internal.Steps.{Voted, Decodable, byWords, byVotes, byShares};
 
-// Opened, with the survivors and those of them that agree; or refused with document 01's number, and with the survivors if that is 16.
+// Opened, with the survivors and those of them that agree; or refused with the documents' number, and with the survivors if that is 16.
 pub enum Outcome {
     Open { survivors: u32, agreeing: u32 },
     Refused { number: u16, survivors: u32 },

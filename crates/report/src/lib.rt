@@ -88,9 +88,9 @@ fn open_shares(
 // Opens the shares of a text that was read: as many words at the front of the reader's buffer as n shares have.
 fn open_words(
     s: Shape,
-    quorum: u16,
     day: u16,
     present: u32,
+    quorum: u16,
     words: &[u16],
     secret: &mut [u16],
     output: &mut [u8],
@@ -126,7 +126,7 @@ fn print_text(text: &[u8], words: &mut [u16], secret: &mut [u16], output: &mut [
             present,
         } => {
             let s = shares::shape_of(t, d);
-            open_words(s, quorum, day, present, words, secret, output)
+            open_words(s, day, present, quorum, words, secret, output)
         }
         handin::Outcome::Refused(number) => put_refused(number, 0, output),
     }

@@ -136,13 +136,13 @@ pub extern "C" fn rutzebam_read(
             t: threshold,
             d: count,
             quorum: asked,
-            day: dealt_for,
+            day: named,
             present: met,
         } => {
             *t = threshold;
             *d = count;
             *quorum = asked;
-            *day = dealt_for;
+            *day = named;
             *present = met;
             0
         }

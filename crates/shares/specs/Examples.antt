@@ -15,7 +15,7 @@ pub record Examples : Type 0 where
   pub day-65521 : isDay 65521 ≡ false
   pub day-65535 : isDay 65535 ≡ false
   -- the day is the first of the tagged words
-  pub day-first : tagged 1 (253 ∷ 254 ∷ []) ≡ 1 ∷ 253 ∷ 254 ∷ []
+  pub day-first : tagged 7 (253 ∷ 254 ∷ []) ≡ 7 ∷ 253 ∷ 254 ∷ []
   -- the longest share, and the largest buffer
   pub longest : width 15 64 ≡ 157
   pub largest : size 15 * width 15 64 ≡ 4867

@@ -1,4 +1,4 @@
--- Where each word of each share (document 01: parcel) stands: for each member in order d share words, n tags, n keys as pairs α, β.
+-- What a day is, what tags cover, and where each word of each share (document 01: parcel) stands: for each member in order d share words, n tags, n keys as pairs α, β.
 -- Assumes nothing.
 use Prim.Native.Nat.{ℕ, _+_, _*_}
 use mathlib.Core.Bool.{Bool}

@@ -10,6 +10,13 @@ sample x =
     ∷ 256 ∷ 259 ∷ 1028 ∷ 2309 ∷ 2 ∷ 1 ∷ 2 ∷ 2 ∷ 2 ∷ 3
     ∷ x ∷ 263 ∷ 1041 ∷ 2337 ∷ 3 ∷ 1 ∷ 3 ∷ 2 ∷ 3 ∷ 3 ∷ []
 
+-- the same as dealt, for day 7
+unfoldable pub daySeven : List ℕ
+daySeven =
+    253 ∷ 261 ∷ 1027 ∷ 2299 ∷ 1 ∷ 1 ∷ 1 ∷ 2 ∷ 1 ∷ 3
+    ∷ 256 ∷ 265 ∷ 1040 ∷ 2327 ∷ 2 ∷ 1 ∷ 2 ∷ 2 ∷ 2 ∷ 3
+    ∷ 259 ∷ 269 ∷ 1053 ∷ 2355 ∷ 3 ∷ 1 ∷ 3 ∷ 2 ∷ 3 ∷ 3 ∷ []
+
 -- the same dealt with all keys 0, so that all tags are 0, for any day
 unfoldable pub keyless : ℕ → List ℕ
 keyless x =

@@ -6,11 +6,11 @@ use Rattle.polynomial.specs.Polynomial.{eval, value}
 use Rattle.mac.specs.Tag.{tag}
 use Rattle.members.specs.Members.{size, bit, has, setOf}
 use Rattle.shares.specs.Layout.{width, word, shareWords, tagWord, keyα, keyβ}
-use Rattle.shares.specs.Sample.{sample, keyless}
+use Rattle.shares.specs.Sample.{sample, daySeven, keyless}
 use Rattle.voting.specs.Votes.{fieldShare, usable, tagHolds, vote, isOf, accepts, voteRows, voteTable, countOf, kinds, pairs}
 use Rattle.voting.specs.Examples.{Examples}
 
 pub examples : Examples
-unfolding tab all keep concat product power eval value tag size bit has setOf width word shareWords tagWord keyα keyβ sample keyless fieldShare usable
+unfolding tab all keep concat product power eval value tag size bit has setOf width word shareWords tagWord keyα keyβ sample daySeven keyless fieldShare usable
     tagHolds vote isOf accepts voteRows voteTable countOf kinds pairs
 examples = search

@@ -1,4 +1,4 @@
--- The counts of all pairs: they add up to n·n, with u usable members n·n − u·u are unread, and where none is of a kind.
+-- The counts of all pairs: they add up to n·n, with u usable members n·n − u·u are unread and u·u are not; and when none is accepted or none mismatched.
 -- Assumes nothing.
 use mathlib.Core.Path.{_≡_, refl, sym, ap, _∙_}
 use mathlib.Core.Bool.{Bool, true, false, _&&_, not, Bool·not-not}

@@ -3,7 +3,7 @@ use Prim.Native.Nat.{ℕ, _+_}
 use mathlib.Core.Path.{_≡_}
 use mathlib.Core.List.{List, [], _∷_}
 use lib.ListN.{set, replicate}
-use Rattle.shares.specs.Sample.{sample, keyless}
+use Rattle.shares.specs.Sample.{sample, daySeven, keyless}
 use Rattle.voting.specs.Votes.{usable, accepted, mismatched, unread, voteRows, voteTable, Pairs, pairs}
 
 -- the sample as dealt, with x at place k of member 2's share: place 0 is its share word, 2 is tag(2,2), 9 is β of key(2,3)
@@ -39,6 +39,8 @@ pub record Examples : Type 0 where
   -- for another day nobody accepts anybody, but by a key whose α is 0: there the day makes no difference, nor do share words
   pub votes-another-day : voteRows 1 1 2 7 (sample 259) ≡ 0 ∷ 0 ∷ 0 ∷ []
   pub pairs-another-day : pairs 1 1 2 7 (sample 259) ≡ tally 0 9 0
+  pub pairs-day-7 : pairs 1 1 7 7 daySeven ≡ tally 9 0 0
+  pub pairs-day-8 : pairs 1 1 8 7 daySeven ≡ tally 0 9 0
   pub pairs-keyless : pairs 1 1 2 7 (keyless 259) ≡ tally 9 0 0
   -- the votes of members 1 and 2, where member 2's share word is altered and member 3 is absent
   pub table :

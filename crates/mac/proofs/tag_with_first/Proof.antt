@@ -13,6 +13,6 @@ tag-with-first-spec =
     (λ c κs. search needs)
     -- let value = polynomial::evaluate(rest, alpha)
     (λ c κs. search needs)
-    -- field::add_four_products(beta, alpha, first, square, value, 0, 0, 0, 0)
+    -- field::add_two_products(beta, alpha, first, square, value)
     (λ c κs. search needs)
     (λ c. search tag-two))
