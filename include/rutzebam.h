@@ -14,12 +14,13 @@
    A day is a number that dealing and opening have to have in common, 1 to 65520. How days are counted
    is up to the station: a number that comes again does not tell the two days apart.
 
-   0 from rutzebam_open does not say that this is the secret that was dealt. It is, where at least t + 1
-   shares are as dealt for the day of the opening, and survivors with share words as dealt are at least
-   t + 1 more than survivors with altered ones. Otherwise, from t = 2 on, t members who know keys and
-   shares of others can make it open to another secret, beside t + 1 shares as dealt. So open once and compare before the readings are deleted, ask for a large
-   quorum, and look at the masks: where k survivors agree, another secret takes k - t altered shares or
-   more. After 16 do not try again with fewer members: t + 1 survivors always open, to something.
+   0 from rutzebam_open does not say that this is the secret that was dealt. It is, where at least
+   t + 1 shares are as dealt for the day of the opening, and survivors with share words as dealt
+   are at least t + 1 more than survivors with altered ones. Otherwise, from t = 2 on, t members
+   who know keys and shares of others can make it open to another secret, beside t + 1 shares as
+   dealt. So open once and compare before the readings are deleted, ask for a large quorum, and
+   look at the masks: where k survivors agree, another secret takes k - t altered shares or more.
+   After 16 do not try again with fewer members: t + 1 survivors always open, to something.
 
    For firmware. The figures are those of the archive for x86-64.
    - Stack: RUTZEBAM_STACK_BYTES and the figures by call, below. There is no recursion. Up to 128
@@ -124,7 +125,7 @@ uint16_t rutzebam_deal(size_t t, uint16_t day,
    say that nothing was altered. The counts are 0 after 1, 2, 32, 11, 12 and 13; else they are the true
    ones, after 14, 15 and 16 too, and add up to n * n.
    Shares of one dealing for another day, as many as meet the quorum, are refused with 15, unless keys
-   among them have 0 as their first word, as one key in 65521 has: docs/RULES.md, 'Another day'.
+   among them have 0 as their first word, as about one in 65521 has: docs/RULES.md, 'Another day'.
    1: t. 2: the secret's length. 32: the day. 11: how many words of shares. 12: a member beyond n is
    present. 13: the quorum is neither 0 nor t + 1 to n. 14: the quorum is not met. 15: no survivors.
    16: too few survivors agree. On a refusal every word of the secret is 65535, at whatever length it
