@@ -12,7 +12,6 @@ use lib.ListN.{length}
 use borrow.Author.Tests.{eq-eqb, eqb-false}
 use Rattle.lists.specs.Tabulate.{tab, all, count, keep, each, first, concat, choose}
 use Rattle.lists.proofs.Bools.{test, clash, and-left, and-right}
-use Rattle.lists.proofs.Checks.{within-high}
 use Rattle.lists.proofs.Count.{count-all}
 use Rattle.lists.proofs.Every.{Every}
 use Rattle.lists.proofs.Tabulate.{all-elim}
@@ -27,6 +26,7 @@ use Rattle.members.proofs.Words.{size-31, firstOf-all, firstOf-lt, setOf-none}
 use Rattle.shares.specs.Layout.{width, assembled, word, shareWord, shareWords, tagWord, keyα, keyβ}
 use Rattle.shares.specs.Sample.{sample}
 use Rattle.shares.proofs.Same.{same-tag}
+use Rattle.shares.proofs.Tests.{day-below}
 use Rattle.pruning.specs.Pruning.{votes, round, rounds, survivors}
 use Rattle.pruning.proofs.Largest.{no-votes}
 use Rattle.decoding.specs.Decoding.{surplus, need, agreeing, through, find}
@@ -40,7 +40,7 @@ use Rattle.reconstruction.specs.Reconstruction.{unopened, isQuorum, required, a
 use Rattle.reconstruction.proofs.Opening.{finish-none, required-most}
 use Rattle.claims.specs.Days.{NoZero, nobody, CompleteSet, AnotherDay, DayInstances}
 use Rattle.claims.specs.Demands.{AsDealt}
-use Rattle.claims.proofs.Demand3.{in-range, dealt-is, second-half}
+use Rattle.claims.proofs.Demand3.{in-range, dealt-is, is-day, second-half}
 use Rattle.claims.proofs.Honest.{right-same, all-usable}
 use Rattle.claims.proofs.Instances.{as-tested, dealt-over}
 
@@ -113,7 +113,7 @@ unfolding AnotherDay
 another-day t day other present quorum secret random dealt words stale some =
     let r : Acceptable t other secret random (stale .dealing .buffer) = in-range t other secret random dealt (stale .dealing) in
     let is : dealt ≡ dealtShares (ownPoints t) t other secret random = dealt-is t other secret random dealt (stale .dealing) in
-    let apart : day ≈ other → ⊥ = λ e. stale .another (eq-same (omega (arith, within-high 1 65520 day (stale .is-day))) (omega (arith, r .day-high)) e) in
+    let apart : day ≈ other → ⊥ = λ e. stale .another (eq-same (day-below day (stale .is-day)) (day-below other (is-day t other secret random dealt (stale .dealing))) e) in
     second-half t other secret random dealt (stale .dealing) day present quorum words (stale .is-day) (stale .handed)
     ∙ stale-answer (ownPoints t) t other secret random (r .random-words) (subst (NoZero t (length secret)) is some) day apart present words
     (stale .handed .n-members)
@@ -123,7 +123,7 @@ another-day t day other present quorum secret random dealt words stale some =
 -- a complete set as it was dealt: all are usable, and meet any quorum
 pub complete-set : CompleteSet
 unfolding CompleteSet AnotherDay
-complete-set t day other quorum secret random dealt dealing some is-day another is-quorum =
+complete-set t day other quorum secret random dealt dealing some dated another is-quorum =
     let d : ℕ = length secret in
     let n : ℕ = size t in
     let r : Acceptable t other secret random (dealing .buffer) = in-range t other secret random dealt dealing in
@@ -138,7 +138,7 @@ complete-set t day other quorum secret random dealt dealing some is-day another 
     another-day t day other (firstOf n) quorum secret random dealt dealt
     (record {
       dealing = dealing;
-      is-day = is-day;
+      is-day = dated;
       another = another;
       handed = record {
         n-shares = ap length is ∙ length-shares (ownPoints t) t other secret random;

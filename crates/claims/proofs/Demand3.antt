@@ -150,11 +150,11 @@ module _ (t day : ℕ) (secret random dealt : List ℕ) (dealing : Dealing t day
       let able : ℕ = usable t d present words in
       reconstruct t d for present quorum words
       ≡ record { opened = finish (ownPoints t) t d quorum able (voteRows t d for able words) (shareWord t d words); pairs = pairs t d for able words }
-  second-half for present quorum words opened handed =
+  second-half for present quorum words dated handed =
       reconstruct-finishes t (length secret) for present quorum words
       (within-intro 1 15 t (in-range .threshold-low) (in-range .threshold-high))
       (within-intro 1 64 (length secret) (in-range .length-low) (in-range .length-high))
-      opened (handed .n-shares) (handed .n-members) (handed .is-quorum)
+      dated (handed .n-shares) (handed .n-members) (handed .is-quorum)
 
 -- Demand 3.
 pub demand3 : Demand3

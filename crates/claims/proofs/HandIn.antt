@@ -13,7 +13,7 @@ use lib.Seq.{take-append-seam}
 use Rattle.lists.specs.Ascii.{ascii}
 use Rattle.lists.specs.Checks.{_unless_, checked}
 use Rattle.lists.specs.Tabulate.{tab, all, each, first, concat}
-use Rattle.lists.proofs.Checks.{all-pass, all-passed, within-high}
+use Rattle.lists.proofs.Checks.{all-pass, all-passed}
 use Rattle.lists.proofs.Every.{none, more}
 use Rattle.lists.proofs.Tabulate.{tab-ext, all-elim}
 use Rattle.members.specs.Members.{isThreshold, size, bit, has, setOf, isSet}
@@ -21,6 +21,7 @@ use Rattle.shares.specs.Layout.{isLength, isDay, width, capacity, word, share}
 use Rattle.shares.specs.Internal.Shape.{InRange}
 use Rattle.shares.specs.Sample.{sample}
 use Rattle.shares.proofs.Shapes.{in-range}
+use Rattle.shares.proofs.Tests.{day-below}
 use Rattle.text.specs.Lines.{digits, field, line, before, parts, decimal, leadsWithZero, isNumeral, numerals, isLetter, numbersOf, lineOf}
 use Rattle.handin.specs.Reader.{shareOf, isSome, wordsOr, takeShare, takeNumbers, takeLine, takeLines, unread, placed, readFrom, readNumbers, readLines, read}
 use Rattle.handin.specs.Writer.{HandInText, firstLine, shareLine, shareLines, textOf, unwritten, written, checks, write}
@@ -71,10 +72,6 @@ module _ (t d quorum day present : ℕ) (words buffer : List ℕ) where
   not-31 true true true true true false fits h = false≢true (fits refl refl refl)
   not-31 true true true true true true fits h = omega (arith, h)
 
-  -- a day has 16 bits
-  day-16 : isDay day ≡ true → day < 65536
-  day-16 h = omega (arith, within-high 1 65520 day h)
-
 pub reads-back : ReadsBack
 unfolding ReadsBack ofPresent
 reads-back t d quorum day present words before after count low small e =
@@ -86,7 +83,7 @@ pub at-most : AtMost
 unfolding AtMost written
 at-most t d quorum day present words before after count low small e =
     let ok : Accepted t d quorum day present words before = accepted t d quorum day present words before (ap (λ (a : HandInText). a .number) e) in
-    omega (arith, ap (λ (a : HandInText). a .count) (sym (ok .so) ∙ e), text-short t d (ok .range) words small present quorum low day (day-16 t d quorum day present words before (ok .dated)))
+    omega (arith, ap (λ (a : HandInText). a .count) (sym (ok .so) ∙ e), text-short t d (ok .range) words small present quorum low day (omega (arith, day-below day (ok .dated))))
 
 pub always-fits : AlwaysFits
 unfolding AlwaysFits write
@@ -95,7 +92,7 @@ always-fits t d quorum day present words buffer low small room =
     (leb (length (textOf t d quorum day present words)) (length buffer))
     (λ p q y.
     le-leb (length (textOf t d quorum day present words)) (length buffer)
-    (le-trans (text-short t d (in-range t d p q) words small present quorum low day (day-16 t d quorum day present words buffer y)) room))
+    (le-trans (text-short t d (in-range t d p q) words small present quorum low day (omega (arith, day-below day y))) room))
 
 -- ---- the longest text: t = 15, d = 64, all present, the quorum and every word 65535, the day 65520
 

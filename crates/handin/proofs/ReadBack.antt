@@ -14,7 +14,7 @@ use lib.ListN.{length, getD, replicate}
 use Rattle.lists.specs.Ascii.{ascii}
 use Rattle.lists.specs.Tabulate.{tab, concat, first}
 use Rattle.lists.proofs.Bools.{test}
-use Rattle.lists.proofs.Checks.{within-intro, within-high}
+use Rattle.lists.proofs.Checks.{within-intro}
 use Rattle.lists.proofs.Every as E
 use Rattle.lists.proofs.Tabulate.{length-tab, tab-ext}
 use Rattle.members.specs.Members.{size, has, setOf}
@@ -22,6 +22,7 @@ use Rattle.members.proofs.Masks.{setOf-ext, setOf-has}
 use Rattle.shares.specs.Layout.{isLength, isDay, width, capacity, word, share}
 use Rattle.shares.specs.Internal.Shape.{InRange}
 use Rattle.shares.proofs.Shapes.{station, is-threshold}
+use Rattle.shares.proofs.Tests.{day-below}
 use Rattle.text.specs.Lines.{parts, lineOf}
 use Rattle.text.proofs.Parts.{parts-some}
 use Rattle.text.proofs.RoundTrip.{body, line-first, line-back}
@@ -151,7 +152,7 @@ module _ (t d : ℕ) (range : InRange t d) (words : List ℕ) (small : (k : ℕ)
 
   module _ (quorum : ℕ) (low : quorum < 65536) (day : ℕ) (is-day : isDay day ≡ true) (inside : present < 2 ^ size t) where
     small-day : day < 65536
-    small-day = omega (arith, within-high 1 65520 day is-day)
+    small-day = omega (arith, day-below day is-day)
 
     abbrev answer : HandIn
     answer =

@@ -46,17 +46,17 @@ module _ (t d day present quorum : ℕ) (words : List ℕ) (b1 : Bool) (e1 : b1 
     unfolding reconstruct
     refused-2 h answer e = e ∙ sym (rw (threshold, fails b2 (within 1 64 d) e2 h))
 
-    module _ (y2 : not b2 ≡ false) (by : Bool) (ey : by ≡ isDay day) where
+    module _ (y2 : not b2 ≡ false) (b32 : Bool) (e32 : b32 ≡ isDay day) where
       in-length : within 1 64 d ≡ true
       in-length = passes b2 (within 1 64 d) e2 y2
 
-      pub refused-32 : not by ≡ true → (answer : Answered) → answer ≡ turnedAway d 32 → answer ≡ answered
+      pub refused-32 : not b32 ≡ true → (answer : Answered) → answer ≡ turnedAway d 32 → answer ≡ answered
       unfolding reconstruct
-      refused-32 h answer e = e ∙ sym (rw (threshold, in-length, fails by (isDay day) ey h))
+      refused-32 h answer e = e ∙ sym (rw (threshold, in-length, fails b32 (isDay day) e32 h))
 
-      module _ (yy : not by ≡ false) (s : Shape) (es : s ≡ shapeOf t d) where
+      module _ (y32 : not b32 ≡ false) (s : Shape) (es : s ≡ shapeOf t d) where
         is-day : isDay day ≡ true
-        is-day = passes by (isDay day) ey yy
+        is-day = passes b32 (isDay day) e32 y32
 
         pub refused-11 : (length words ≡ s .n * s .width → ⊥) → (answer : Answered) → answer ≡ turnedAway d 11 → answer ≡ answered
         unfolding reconstruct

@@ -1,4 +1,4 @@
--- The tests of how many words there are and of a mask, as the code makes them by a station's shape.
+-- The tests of how many words there are and of a mask, as the code makes them by a station's shape; and what a day is below.
 -- Assumes nothing.
 use mathlib.Core.Path.{_≡_, sym, ap, _∙_}
 use mathlib.Core.Bool.{true, false}
@@ -8,11 +8,15 @@ use native.Mathlib.Omega.{arith}
 use lib.Dec.{leb, eqb}
 use lib.ListN.{length}
 use borrow.Author.Tests.{eq-eqb, ne-eqb, le-leb, lt-leb}
+use Rattle.lists.proofs.Checks.{within-high}
 use Rattle.members.specs.Members.{size, isSet, firstOf}
 use Rattle.members.proofs.Words.{firstOf-isSet, size-31}
-use Rattle.shares.specs.Layout.{width}
+use Rattle.shares.specs.Layout.{isDay, width}
 use Rattle.shares.specs.Internal.Shape.{InRange, shapeOf}
 use Rattle.shares.specs.declared.Shape.{Shape}
+
+pub day-below : (day : ℕ) → isDay day ≡ true → day < 65521
+day-below day h = omega (arith, within-high 1 65520 day h)
 
 module _ (t d : ℕ) (s : Shape) (es : s ≡ shapeOf t d) where
   all-words : s .n * s .width ≡ size t * width t d
