@@ -43,8 +43,8 @@ extern "C" {
 
 #define RUTZEBAM_VERSION_MAJOR 4
 #define RUTZEBAM_VERSION_MINOR 0
-#define RUTZEBAM_VERSION_PATCH 0
-#define RUTZEBAM_VERSION "4.0.0"
+#define RUTZEBAM_VERSION_PATCH 1
+#define RUTZEBAM_VERSION "4.0.1"
 
 /* How many words a share has: d share words, n tags and n keys of two words. */
 #define RUTZEBAM_SHARE_WORDS(t, d) ((d) + 3 * (2 * (t) + 1))

@@ -6,6 +6,7 @@ use std::fmt;
 use crate::library;
 use crate::program;
 use crate::reference::decoding::{Way, decode};
+use crate::reference::look;
 use crate::reference::program::printed;
 use crate::reference::pruning::prune;
 use crate::reference::sharing::{Pairs, deal, open, tag};
@@ -14,9 +15,10 @@ use crate::reference::text::{read, write};
 /// What is wrong beside the answer: a lent input changed, or a word beside a buffer.
 pub type Damage = Vec<&'static str>;
 
-/// The two things tested.
+/// The things tested: the library, the program `opening` and the program `weights`.
 pub const LIBRARY: &str = "library";
 pub const PROGRAM: &str = "program";
+pub const WEIGHTS: &str = "weights";
 
 /// A call with all that it is lent, each buffer as it is before the call.
 pub trait Call: fmt::Debug {
@@ -391,11 +393,36 @@ impl Call for Print {
     }
 
     fn under_test(&self) -> (Text, Damage) {
-        let (output, damage) = program::run(&self.text.0);
+        let (output, damage) = program::run(&program::OPENING, &self.text.0);
         (Text(output), damage)
     }
 
     fn number(answer: &Text) -> Option<u16> {
         answer.number()
+    }
+}
+
+/// A run of the program `weights`, which prints the same whatever it could read.
+#[derive(Clone, Debug)]
+pub struct Weights {
+    pub text: Text,
+}
+
+impl Call for Weights {
+    type Answer = Text;
+    const NAME: &'static str = WEIGHTS;
+    const TESTED: &'static str = WEIGHTS;
+
+    fn by_reference(&self) -> Text {
+        Text(look::printed().into_bytes())
+    }
+
+    fn under_test(&self) -> (Text, Damage) {
+        let (output, damage) = program::run(&program::WEIGHTS, &self.text.0);
+        (Text(output), damage)
+    }
+
+    fn number(_: &Text) -> Option<u16> {
+        None
     }
 }

@@ -1,5 +1,6 @@
 //! The outcomes that a run must have reached.
 
+use crate::cases::look::GONE;
 use crate::cases::orders::{DEAL, DECODE, OPEN, PRUNE, WRITE};
 use crate::cases::reading::{DAMAGES, DAY_FAULTS, ENDS, ORDERS};
 use crate::cases::{END_DAYS, no_days};
@@ -56,6 +57,19 @@ const CLASSES: &[&str] = &[
     "open: two days, two dealings, one is struck",
     "open: two days, two dealings, both survive",
     "open: done, compared with the search too",
+    "look: all words pass",
+    "look: fails at the first word, opened",
+    "look: fails at a middle word, opened",
+    "look: fails at the last word, opened",
+    "look: fails at the first word, 16",
+    "look: fails at a middle word, 16",
+    "look: fails at the last word, 16",
+    "look: some off in the same word, opened",
+    "look: some off in the same word, 16",
+    "look: some off in words of their own, opened",
+    "look: some off in words of their own, 16",
+    "look: degree t + 1 after a word as dealt",
+    "weights: printed",
     "prune: nobody survives",
     "prune: some survive",
     "prune: all survive",
@@ -124,6 +138,14 @@ const PROGRAM: &[&str] = &[
     "another day, some alphas 0",
     "two days, one dealing",
     "two days, two dealings",
+    "all on the dealt polynomials",
+    "one member off",
+    "some members off",
+    "all on other polynomials",
+    "a higher degree",
+    "a higher degree, the most on one of degree t",
+    "one sum is not 0",
+    "not all survive",
     "a complete text of another day",
     "a hand-in, its text spoilt",
     "good text",
@@ -172,6 +194,43 @@ pub fn required() -> Vec<String> {
     names.extend(numbers.map(|number| format!("program: {number}")));
     names.extend(sizes());
     names.extend(days());
+    names.extend(looks());
+    names
+}
+
+/// Where the quick look passes and fails: each t, d, power and degree, each member off alone, and
+/// each way to be gone, where it must not be used.
+fn looks() -> Vec<String> {
+    let mut names = Vec::new();
+    for t in 1..=15 {
+        for class in [
+            "all words pass",
+            "all on other polynomials",
+            "fails, 16",
+            "degree t + 1 at all points",
+        ] {
+            names.push(format!("look: {class}, t = {t}"));
+        }
+        // with three members nobody may be off
+        if t > 1 {
+            names.push(format!("look: fails, opened, t = {t}"));
+        }
+        names.push(format!("look: fails at power {} first", t - 1));
+        names.push(format!("look: degree t + {t} at all points"));
+        names.extend((0..t).map(|m| format!("look: fails at power {m} alone, t = {t}")));
+        let n = 2 * t + 1;
+        names.extend((1..=n).map(|i| format!("look: member {i} of {n} off alone")));
+        let passing = |way| format!("look: {way}, the words of all would pass, t = {t}");
+        names.extend(GONE.map(passing));
+    }
+    for d in 1..=64 {
+        names.push(format!("look: all words pass, d = {d}"));
+        names.push(format!("look: fails, d = {d}"));
+    }
+    for way in GONE {
+        names.push(format!("look: one {way}, the words of all would pass"));
+        names.push(format!("look: {way}, the words of all would fail"));
+    }
     names
 }
 

@@ -5,6 +5,7 @@ use Rattle.polynomial.proofs.Examples as Polynomial
 use Rattle.mac.proofs.Examples as Mac
 use Rattle.members.proofs.Examples as Members
 use Rattle.shares.proofs.Examples as Shares
+use Rattle.parity.proofs.Examples as Parity
 use Rattle.voting.proofs.Examples as Voting
 use Rattle.pruning.proofs.Examples as Pruning
 use Rattle.decoding.proofs.Examples as Decoding
@@ -42,6 +43,7 @@ corners =
       mac = Mac.examples;
       members = Members.examples;
       shares = Shares.examples;
+      parity = Parity.examples;
       voting = Voting.examples;
       pruning = Pruning.examples;
       strikes = Pruning.strikes;

@@ -8,4 +8,5 @@ pub mod Honest
 pub mod Instances
 pub mod Opening
 pub mod Pairs
+pub mod QuickLook
 pub mod Rules

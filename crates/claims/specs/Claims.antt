@@ -6,6 +6,7 @@ use Rattle.claims.specs.General.{Opening, DealtAnywhere}
 use Rattle.claims.specs.HandIn.{ReadsBack, AtMost, AlwaysFits, HandInInstances}
 use Rattle.claims.specs.Instances.{Instances}
 use Rattle.claims.specs.Pairs.{PairCounts}
+use Rattle.claims.specs.QuickLook.{TableRule, QuickLook, AllAgree, LookInstances}
 use Rattle.claims.specs.Rules.{Rules}
 
 pub record Claims : Type 0 where
@@ -27,6 +28,12 @@ pub record Claims : Type 0 where
   pub at-most : AtMost
   pub always-fits : AlwaysFits
   pub hand-in-instances : HandInInstances
+  -- the table of weights; words of all n members pass the look exactly if they lie on a polynomial of degree at most t, and all words do exactly if
+  -- all n agree; why the premises are needed
+  pub table-rule : TableRule
+  pub quick-look : QuickLook
+  pub all-agree : AllAgree
+  pub look-instances : LookInstances
   -- what documents 01 and 02 say of their rules
   pub rules : Rules
   -- C1 to C14, and the corners

@@ -7,6 +7,7 @@ use Rattle.mac.specs.Examples.{C3, C4}
 use Rattle.mac.specs.Examples as Mac
 use Rattle.members.specs.Examples as Members
 use Rattle.shares.specs.Examples as Shares
+use Rattle.parity.specs.Examples as Parity
 use Rattle.voting.specs.Examples as Voting
 use Rattle.pruning.specs.Examples.{C6, C7, C8}
 use Rattle.pruning.specs.Examples as Pruning
@@ -47,6 +48,7 @@ pub record Corners : Type 0 where
   pub mac : Mac.Examples
   pub members : Members.Examples
   pub shares : Shares.Examples
+  pub parity : Parity.Examples
   pub voting : Voting.Examples
   pub pruning : Pruning.Examples
   pub strikes : Pruning.Strikes

@@ -6,4 +6,5 @@ pub mod General
 pub mod HandIn
 pub mod Instances
 pub mod Pairs
+pub mod QuickLook
 pub mod Rules

@@ -10,5 +10,6 @@ pub mod Grids
 pub mod InPlace
 pub mod StoredBlocks
 pub mod Stores
+pub mod Sums
 pub mod Tables
 pub mod Tabulate

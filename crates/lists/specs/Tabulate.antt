@@ -1,4 +1,4 @@
--- The first n numbers, 0 to n − 1: lists, tests and counts over them.
+-- The first n numbers, 0 to n − 1: lists, tests, counts and sums over them.
 -- Assumes nothing.
 use Prim.Native.Nat.{ℕ, zero, suc, _+_}
 use mathlib.Core.Bool.{Bool, true, false, _&&_, cond}
@@ -19,6 +19,11 @@ all (suc n) test = test 0 && all n (λ i. test (suc i))
 unfoldable pub count : ℕ → (ℕ → Bool) → ℕ
 count zero test = 0
 count (suc n) test = cond (test 0) 1 0 + count n (λ i. test (suc i))
+
+-- f 0 + f 1 + .. + f (n − 1)
+unfoldable pub sumTo : ℕ → (ℕ → ℕ) → ℕ
+sumTo zero f = 0
+sumTo (suc n) f = f 0 + sumTo n (λ i. f (suc i))
 
 -- the elements that pass the test, in order
 unfoldable pub keep : {A : Type 0} → (A → Bool) → List A → List A

@@ -1,21 +1,23 @@
 -- The words one after the other come to the polynomials of all words: the turn of the loop, for any distinct points and then at the members' own.
 -- Assumes nothing.
 use mathlib.Core.Path.{_≡_, refl, sym, ap, ap₂, _∙_, subst}
-use mathlib.Core.Bool.{Bool, true, false, _&&_, cond, and-true, and-assoc}
+use mathlib.Core.Bool.{Bool, true, false, _&&_, cond, and-assoc}
 use mathlib.Core.Logic.{inl, inr}
 use mathlib.Core.Option.{Option, none, some}
 use mathlib.Core.List.{List, [], _∷_, _++_}
-use Prim.Native.Nat.{ℕ, suc, _+_, _≤_, _<_, _^_, zero-le}
-use native.Mathlib.Nat.{le-trans, le-of-eq, not-suc-le-zero, eq-or-lt-of-le, le-of-suc-le-suc}
+use Prim.Native.Nat.{ℕ, suc, _+_, _≤_, _<_, _^_, zero-le, suc-le-suc}
+use native.Mathlib.Nat.{le-trans, le-of-eq, eq-or-lt-of-le, le-of-suc-le-suc}
 use native.Mathlib.Numerals.{add-one}
 use native.Mathlib.Omega.{arith}
 use lib.Dec.{eqb, ltb}
 use lib.ListN.{length, getD, take, set, length-set}
-use lib.Seq.{take-suc-set, take-all}
-use borrow.Author.Tests.{le-leb, ltb-true, ltb-false}
+use lib.Seq.{take-suc-set, take-all, length-take-le, getD-take}
+use borrow.Author.Tests.{eq-eqb, le-leb, ltb-true, ltb-false}
 use Rattle.lists.specs.Tabulate.{tab, all}
 use Rattle.lists.proofs.Blocks.{tab-more}
-use Rattle.lists.proofs.Tabulate.{tab-ext, getD-tab, all-last}
+use Rattle.lists.proofs.Bools.{and-intro, and-left, same-test}
+use Rattle.lists.proofs.Count.{count-mono}
+use Rattle.lists.proofs.Tabulate.{tab-ext, tab-getD, getD-tab, all-intro, all-last}
 use Rattle.field.proofs.Congruence.{same-eq}
 use Rattle.polynomial.specs.Polynomial.{eval, value}
 use Rattle.polynomial.proofs.Roots.{Distinct}
@@ -29,14 +31,15 @@ use Rattle.shares.specs.declared.Shape.{Shape}
 use Rattle.decoding.specs.declared.Outcome.{Outcome}
 use Rattle.decoding.specs.declared.Outcome.the-variants.{Refused}
 use Rattle.decoding.specs.Answer.{answerOf}
-use Rattle.decoding.specs.Decoding.{surplus, need, agreeing, nth, find, decodedFrom}
+use Rattle.decoding.specs.Decoding.{surplus, need, agreeing, Fits, nth, find, decodedFrom}
 use Rattle.decoding.proofs.Apart.{too-few}
 use Rattle.decoding.proofs.Points.{own-distinct}
-use Rattle.decoding.proofs.Unique.{agreeing-same}
+use Rattle.decoding.proofs.Search.{find-found, find-complete}
+use Rattle.decoding.proofs.Unique.{agrees, card-agreeing, agreeing-same, fits-value}
 use Rattle.decoding.proofs.Words.{wordAt, no-word, by-words}
 use Rattle.reconstruction.specs.Reconstruction.{Opened, unopened, atZero, openedFrom}
-use Rattle.reconstruction.specs.Internal.Steps.{Decodable, byWords}
-use Rattle.reconstruction.proofs.ByWord.{Turned, word-refused}
+use Rattle.reconstruction.specs.Internal.Steps.{Decodable, Met, Begun, byWords}
+use Rattle.reconstruction.proofs.ByWord.{single, Turned, word-refused}
 
 -- enough of a set are not more than all
 need-all : (t s : ℕ) → suc t ≤ s → need t s ≤ s
@@ -47,6 +50,13 @@ need-all t s h = omega arith
 unfoldable pub polyOf : Option (List (List ℕ)) → List ℕ
 polyOf none = []
 polyOf (some fs) = nth fs 0
+
+-- the front of a list by its places
+take-tab : (k : ℕ) (l : List ℕ) → k ≤ length l → take k l ≡ tab k (λ j. getD l j 0)
+take-tab k l h =
+    sym (tab-getD (take k l) 0)
+    ∙ ap (λ (n : ℕ). tab n (λ j. getD (take k l) j 0)) (length-take-le k l h)
+    ∙ tab-ext k (λ j. getD (take k l) j 0) (λ j. getD l j 0) (λ j m. getD-take k l j 0 m)
 
 -- word j's polynomial
 abbrev pub poly : List ℕ → ℕ → (ℕ → ℕ → ℕ) → ℕ → ℕ → List ℕ
@@ -66,17 +76,53 @@ pub record Going (xs : List ℕ) (t d : ℕ) (y : ℕ → ℕ → ℕ) (s agreed
   pub so-far : take k secret ≡ tab k (λ j. value (poly xs t y s j) 0)
 
 module _ (xs : List ℕ) (distinct : Distinct xs) (t : ℕ) (long : length xs ≡ size t) (d : ℕ) (y : ℕ → ℕ → ℕ) (s : ℕ) where
-  going-first : (secret : List ℕ) → s < 2 ^ size t → suc t ≤ card (size t) s → length secret ≡ d → Going xs t d y s s secret 0
-  unfolding all tab
-  going-first secret below enough e =
+  -- words that are opened already
+  module _ (enough : suc t ≤ card (size t) s) (j v : ℕ) (met : Met xs t y s j v) where
+    met-fits : Fits xs t 1 (wordAt y j) s (λ i. met .f)
+    unfolding card
+    met-fits =
+        record {
+          degree = λ k l. met .degree;
+          enough =
+              le-trans (need-all t (card (size t) s) enough)
+              (le-trans
+              (count-mono (size t) (has s) (agrees xs 1 (wordAt y j) s (λ i. met .f))
+              (λ i l e. and-intro e
+              (all-intro 1 (λ k. eqb (value (met .f) (getD xs i 0)) (y i j)) (λ k m. eq-eqb (value (met .f) (getD xs i 0)) (y i j) (met .meets i l e)))))
+              (le-of-eq (sym (card-agreeing xs t 1 (wordAt y j) s (λ i. met .f)))));
+        }
+
+    met-found : find xs t 1 (wordAt y j) s ≡ some (poly xs t y s j ∷ [])
+    unfolding polyOf
+    met-found =
+        let (fs, e) = find-complete xs distinct t long 1 (wordAt y j) s (λ i. met .f) met-fits in
+        let one : fs ≡ nth fs 0 ∷ [] = single fs (find-found xs t 1 (wordAt y j) s fs e .places) in
+        e ∙ ap some (one ∙ ap (λ (g : List ℕ). g ∷ []) (sym (ap polyOf e)))
+
+    met-value : (z : ℕ) → value (poly xs t y s j) z ≡ value (met .f) z
+    met-value z =
+        fits-value xs distinct t long 1 (wordAt y j) s (nth (poly xs t y s j ∷ [])) (λ i. met .f)
+        (find-found xs t 1 (wordAt y j) s (poly xs t y s j ∷ []) met-found .fits) met-fits 0 (suc-le-suc zero-le) z
+
+  pub going-begun : (secret : List ℕ) (k : ℕ) → s < 2 ^ size t → suc t ≤ card (size t) s → length secret ≡ d → Begun xs t d y s k secret → Going xs t d y s s secret k
+  going-begun secret k below enough e begun =
       record {
-        inside = zero-le;
+        inside = begun .inside;
         length-secret = e;
-        each = λ j l. absurd (not-suc-le-zero l);
-        members = sym (setOf-ext (size t) (meetsAll xs t y s 0) (has s) (λ i l. and-true (has s i)) ∙ setOf-has (size t) s below);
+        each = λ j l. met-found enough j _ (begun .each j l);
+        members =
+            sym (setOf-ext (size t) (meetsAll xs t y s k) (has s) (λ i l. same-test (meetsAll xs t y s k i) (has s i) (and-left (has s i) _) (all-met i l)) ∙ setOf-has (size t) s below);
         many = need-all t (card (size t) s) enough;
-        so-far = refl;
+        so-far =
+            take-tab k secret (le-trans (begun .inside) (le-of-eq (sym e)))
+            ∙ tab-ext k (λ j. getD secret j 0) (λ j. value (poly xs t y s j) 0) (λ j l. begun .each j l .at-zero ∙ sym (met-value enough j _ (begun .each j l) 0));
       }
+    where
+      all-met : (i : ℕ) → i < size t → has s i ≡ true → meetsAll xs t y s k i ≡ true
+      all-met i l h =
+          and-intro h
+          (all-intro k (λ j. eqb (value (poly xs t y s j) (getD xs i 0)) (y i j))
+          (λ j m. eq-eqb _ (y i j) (met-value enough j _ (begun .each j m) (getD xs i 0) ∙ begun .each j m .meets i l h)))
 
   module _ (agreed : ℕ) (secret : List ℕ) (k : ℕ) (going : Going xs t d y s agreed secret k) (more : k < d)
       (left v : ℕ) (turned : Turned xs t y s agreed k left v) where
@@ -125,7 +171,7 @@ module _ (xs : List ℕ) (distinct : Distinct xs) (t : ℕ) (long : length xs �
         })
 
   -- all words are done
-  going-last : (agreed : ℕ) (secret : List ℕ) (k : ℕ) → d ≤ k → Going xs t d y s agreed secret k
+  pub going-last : (agreed : ℕ) (secret : List ℕ) (k : ℕ) → d ≤ k → Going xs t d y s agreed secret k
       → (let a : Opened = record { number = 0; survivors = s; agreeing = agreed; secret = secret } in a) ≡ openedFrom xs t d y s (find xs t d y s)
   unfolding openedFrom agreeing atZero
   going-last agreed secret k h going =
@@ -175,8 +221,8 @@ module _ {shape : Shape} {words : List ℕ} (room : Room shape words) {s : ℕ} 
   pub own-length : {points : List ℕ} → points ≡ ownPoints t → length points ≡ shape .n
   own-length e = ap length e ∙ length-own t ∙ sym (room .station .members)
 
-  pub opening-first : {secret : List ℕ} → length secret ≡ d → Opening s secret 0
-  opening-first {secret} e = going-first (ownPoints t) (own-distinct t low) t (length-own t) d y s secret (dec .below) (dec .enough) e
+  pub opening-begun : {secret : List ℕ} {k : ℕ} → length secret ≡ d → Begun (ownPoints t) t d y s k secret → Opening s secret k
+  opening-begun {secret} {k} = going-begun (ownPoints t) (own-distinct t low) t (length-own t) d y s secret k (dec .below) (dec .enough)
 
   module _ {agreed : ℕ} {secret : List ℕ} {k : ℕ} (going : Opening agreed secret k) where
     pub opening-last : d ≤ k → (let a : Opened = record { number = 0; survivors = s; agreeing = agreed; secret = secret } in a) ≡ answered

@@ -47,7 +47,7 @@ refused-none len k buffer none e = refl
 refused-none len k buffer (some fs) e = absurd (refusal-pos k (ap (λ (a : Decoded). a .number) e))
 
 -- the one of a list of one
-single : (fs : List (List ℕ)) → length fs ≡ 1 → fs ≡ nth fs 0 ∷ []
+pub single : (fs : List (List ℕ)) → length fs ≡ 1 → fs ≡ nth fs 0 ∷ []
 single [] e = absurd (suc-ne-zero 0 (sym e))
 single (f ∷ []) e = refl
 single (f ∷ g ∷ fs) e = absurd (suc-ne-zero (length fs) (suc-inj e))

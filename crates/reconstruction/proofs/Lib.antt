@@ -7,3 +7,4 @@ pub mod Meaning
 pub mod Numbers
 pub mod Opening
 pub mod Order
+pub mod Quick

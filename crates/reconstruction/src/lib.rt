@@ -17,7 +17,8 @@ ghost use Rattle.decoding.specs.Answer.{answerOf as decodedOf};
 ghost use Rattle.decoding.specs.Decoding.{need, find, decodedFrom};
 ghost use Rattle.reconstruction.specs.Answer.{answerOf, answeredOf};
 ghost use Rattle.reconstruction.specs.Reconstruction.{unopened, isQuorum, required, turnedAway, reconstruct as reconstructOf};
-ghost use Rattle.reconstruction.specs.Internal.Steps.{Voted, Decodable, byWords, byVotes, byShares};
+ghost use Rattle.parity.specs.Internal.Looking.{opened};
+ghost use Rattle.reconstruction.specs.Internal.Steps.{Voted, Decodable, Begun, quickly, byWords, byVotes, byShares};
 
 // Opened, with the survivors and those of them that agree; or refused with the documents' number, and with the survivors if that is 16.
 pub enum Outcome {
@@ -112,23 +113,31 @@ fn too_few(t: usize, survived: u32, left: u32) -> bool
     (members::card(left) as usize) < decoding::need(t as u16, members::card(survived))
 }
 
-// All words, one after the other: the secret, with those of the survivors that meet every word's polynomial; 16 where a word has none, or where too few are left.
+// The survivors, and how many words are opened already.
+struct Progress {
+    survived: u32,
+    done: usize,
+}
+
+// The words that are left, one after the other: the secret, with those of the survivors that meet every word's polynomial; 16 where a word has none, or where too few are left.
 fn open_words(
     s: Shape,
     shares: &[u16],
-    survived: u32,
+    at: Progress,
     points: &[u16],
     values: &mut [u16],
     f: &mut [u16],
     secret: &mut [u16],
 ) -> Outcome
     requires { ⌜ Room s (now shares) ⌝ }
-    requires { ⌜ Decodable (s .t) (s .d) (now shares) survived ⌝ }
+    requires { ⌜ Decodable (s .t) (s .d) (now shares) (at .survived) ⌝ }
     requires { ⌜ (now points ≡ ownPoints (s .t)) × (length (now values) ≡ s .n) × (length (now f) ≡ suc (s .t)) × (length (now secret) ≡ s .d) ⌝ }
-    ensures { λ r. ⌜ answerOf r (now (secret .exit)) ≡ byWords s (now (shares .entry)) survived ⌝ }
+    requires { ⌜ Begun (ownPoints (s .t)) (s .t) (s .d) (shareWord (s .t) (s .d) (now shares)) (at .survived) (at .done) (now secret) ⌝ }
+    ensures { λ r. ⌜ answerOf r (now (secret .exit)) ≡ byWords s (now (shares .entry)) (at .survived) ⌝ }
 {
+    let survived = at.survived;
     let mut agreed = survived;
-    let mut k = 0;
+    let mut k = at.done;
     while k < s.d {
         let decoding::Outcome::Found = decode_word(s, shares, k, survived, agreed, values, f) else {
             return refuse(secret, 16, survived); // no polynomial
@@ -150,28 +159,44 @@ fn open_words(
 fn open_at_own(
     s: Shape,
     shares: &[u16],
-    survived: u32,
+    at: Progress,
     points: &mut [u16],
     values: &mut [u16],
     f: &mut [u16],
     secret: &mut [u16],
 ) -> Outcome
     requires { ⌜ Room s (now shares) ⌝ }
-    requires { ⌜ Decodable (s .t) (s .d) (now shares) survived ⌝ }
+    requires { ⌜ Decodable (s .t) (s .d) (now shares) (at .survived) ⌝ }
     requires { ⌜ (length (now points) ≡ s .n) × (length (now values) ≡ s .n) × (length (now f) ≡ suc (s .t)) × (length (now secret) ≡ s .d) ⌝ }
-    ensures { λ r. ⌜ answerOf r (now (secret .exit)) ≡ byWords s (now (shares .entry)) survived ⌝ }
+    requires { ⌜ Begun (ownPoints (s .t)) (s .t) (s .d) (shareWord (s .t) (s .d) (now shares)) (at .survived) (at .done) (now secret) ⌝ }
+    ensures { λ r. ⌜ answerOf r (now (secret .exit)) ≡ byWords s (now (shares .entry)) (at .survived) ⌝ }
 {
     members::own_points(points);
-    open_words(s, shares, survived, points, values, f, secret)
+    open_words(s, shares, at, points, values, f, secret)
 }
 
-// The same, with room for the points, and for the values and the coefficients of one word.
+// The quick look, where all n members survive: it opens the words that pass it before one that does not, and says how many.
+fn open_quickly(s: Shape, shares: &[u16], survived: u32, secret: &mut [u16]) -> usize
+    requires { ⌜ Room s (now shares) ⌝ }
+    requires { ⌜ length (now secret) ≡ s .d ⌝ }
+    ensures { λ r. ⌜ r ≡ quickly s (now (shares .entry)) survived ⌝ }
+    ensures { λ r. ⌜ now (secret .exit) ≡ opened (s .t) r (shareWord (s .t) (s .d) (now (shares .entry))) (now (secret .entry)) ⌝ }
+{
+    let all = members::first(s.n);
+    if survived != all {
+        return 0; // somebody was struck
+    }
+    parity::look(s, shares, secret)
+}
+
+// All words, those that the look opens first, with room for the points, and for the values and the coefficients of one word.
 fn open_all(s: Shape, shares: &[u16], survived: u32, secret: &mut [u16]) -> Outcome
     requires { ⌜ Room s (now shares) ⌝ }
     requires { ⌜ Decodable (s .t) (s .d) (now shares) survived ⌝ }
     requires { ⌜ length (now secret) ≡ s .d ⌝ }
     ensures { λ r. ⌜ answerOf r (now (secret .exit)) ≡ byWords s (now (shares .entry)) survived ⌝ }
 {
+    let done = open_quickly(s, shares, survived, secret);
     let n = s.n;
     let coefficients = s.t + 1;
     let mut points = [0u16; 31];
@@ -180,7 +205,7 @@ fn open_all(s: Shape, shares: &[u16], survived: u32, secret: &mut [u16]) -> Outc
     open_at_own(
         s,
         shares,
-        survived,
+        Progress { survived, done },
         &mut points[..n],
         &mut values[..n],
         &mut f[..coefficients],

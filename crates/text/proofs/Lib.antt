@@ -6,6 +6,7 @@ pub mod FieldLaws
 pub mod FieldLists
 pub mod Numerals
 pub mod Parts
+pub mod Pieces
 pub mod Printing
 pub mod RoundTrip
 pub mod Writing

@@ -47,12 +47,18 @@ pub length-line : (word : List ℕ) (a b : ℕ) → length (line word (a ∷ b �
 unfolding concat
 length-line word a b = omega (arith, length-from word a (b ∷ []), length-append (field b) [])
 
--- a line is written by its word, the field of its first number, the fields of the others, and its byte 10
+-- a line is written by its word, the fields of its numbers, and its byte 10
+pub written-numbers : {l m₁ m₂ word : List ℕ} {at e₁ e₂ : ℕ} (ns : List ℕ)
+    → Written l at word m₁ e₁ → Written m₁ e₁ (concat (map field ns)) m₂ e₂ → e₂ < length m₂ → Written l at (line word ns) (set m₂ e₂ 10) (e₂ + 1)
+unfolding line
+written-numbers {m₂ = m₂} {e₂ = e₂} ns p q h = written-then (written-then p q) (written-one m₂ e₂ 10 h)
+
+-- the field of its first number apart
 pub written-list : {l m₁ m₂ m₃ word : List ℕ} {at e₁ e₂ e₃ : ℕ} (n : ℕ) (ns : List ℕ)
     → Written l at word m₁ e₁ → Written m₁ e₁ (field n) m₂ e₂ → Written m₂ e₂ (concat (map field ns)) m₃ e₃
     → e₃ < length m₃ → Written l at (line word (n ∷ ns)) (set m₃ e₃ 10) (e₃ + 1)
-unfolding line concat
-written-list {m₃ = m₃} {e₃ = e₃} n ns p q r h = written-then (written-then p (written-then q r)) (written-one m₃ e₃ 10 h)
+unfolding concat
+written-list n ns p q r h = written-numbers (n ∷ ns) p (written-then q r) h
 
 pub written-line : {l m₁ m₂ m₃ word : List ℕ} {at e₁ e₂ e₃ : ℕ} (a b : ℕ)
     → Written l at word m₁ e₁ → Written m₁ e₁ (field a) m₂ e₂ → Written m₂ e₂ (field b) m₃ e₃

@@ -285,3 +285,14 @@ pub fn put_list(word: &[u8], first: u16, numbers: &[u16], output: &mut [u8], at:
     output[end] = 10;
     end + 1
 }
+
+// A line of numbers: its first has no tab before it.
+pub fn put_numbers(first: u32, numbers: &[u16], output: &mut [u8], at: usize) -> usize
+    requires { ⌜ at + length (digits 10 first) + length (concat (map field (now numbers))) + 1 ≤ length (now output) ⌝ }
+    ensures { λ r. ⌜ Written (now (output .entry)) at (line (digits 10 first) (now (numbers .entry))) (now (output .exit)) r ⌝ }
+{
+    let rest = put_digits(first, output, at);
+    let last = put_fields(numbers, output, rest);
+    output[last] = 10;
+    last + 1
+}

@@ -191,10 +191,17 @@ fn rows() -> Vec<Row> {
     let half = everybody(T + 1);
     let (seven, last) = (altered(&blind, 7, 0..D), altered(&blind, 8, D - 1..D));
     let each = one_word_each(&blind, 7);
+    let one = altered(&blind, 1, D - 1..D);
     vec![
         dealing(secret, tape),
         opening("opening, 31 honest", all, shares.clone(), 0),
         opening("opening, 16 present, honest", half, shares.clone(), 0),
+        opening(
+            "opening, 1 of 31 altered in the last word, all survive",
+            all,
+            one,
+            0,
+        ),
         opening("opening, 7 of 31 altered, all survive", all, seven, 0),
         opening("opening, 7 of 31 altered, in one word each", all, each, 0),
         opening("opening, 16 in the last word", all, last, 16),

@@ -1,4 +1,4 @@
-//! Compares the library and the program with the other implementation on generated calls and
+//! Compares the library and the programs with the other implementation on generated calls and
 //! texts.
 //!
 //! `differential [--seed S] [--cases N | --seconds T]` runs rounds S, S + 1, .. until N calls of the
@@ -8,7 +8,7 @@
 use std::process::ExitCode;
 use std::time::{Duration, Instant};
 
-use crosscheck::calls::{LIBRARY, PROGRAM};
+use crosscheck::calls::{LIBRARY, PROGRAM, WEIGHTS};
 use crosscheck::cases::round;
 use crosscheck::compare::Ledger;
 use crosscheck::outcomes::required;
@@ -84,8 +84,10 @@ fn main() -> ExitCode {
         return ExitCode::from(1);
     }
     let complete = report(&ledger);
-    let (calls, texts) = (ledger.compared(LIBRARY), ledger.compared(PROGRAM));
-    println!("{calls} calls and {texts} texts for the program compared, 0 differences");
+    let [calls, texts, runs] = [LIBRARY, PROGRAM, WEIGHTS].map(|tested| ledger.compared(tested));
+    println!(
+        "{calls} calls, {texts} texts for `opening` and {runs} runs of `weights` compared, 0 differences"
+    );
     match complete {
         true => ExitCode::SUCCESS,
         false => ExitCode::from(1),

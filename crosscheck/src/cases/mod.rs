@@ -3,6 +3,7 @@
 pub mod days;
 pub mod dealing;
 pub mod decoding;
+pub mod look;
 pub mod opening;
 pub mod orders;
 pub mod page;
@@ -50,6 +51,7 @@ const GENERATORS: &[Generator] = &[
     orders::all,
     program::all,
     days::all,
+    look::all,
 ];
 
 /// Runs all generators for one seed.

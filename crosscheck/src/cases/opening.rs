@@ -151,7 +151,7 @@ fn bounded_errors(round: &mut Round) {
 }
 
 /// Adds to word `k` of the movers a polynomial that is 0 at the members kept.
-fn shift(random: &mut Random, handed: &mut Handed, k: usize, kept: u32, movers: u32) {
+pub fn shift(random: &mut Random, handed: &mut Handed, k: usize, kept: u32, movers: u32) {
     let scale = random.within(1, 65520) as u32;
     for i in members(movers) {
         let factors = members(kept).into_iter().map(|j| sub(i as u32, j as u32));

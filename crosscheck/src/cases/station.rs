@@ -4,6 +4,7 @@ use super::{Round, program};
 use crate::calls::{Deal, Open, Opened};
 use crate::compare::Ledger;
 use crate::random::Random;
+use crate::reference::look::first_to_fail;
 use crate::reference::sharing::{Layout, Pairs, random_words, same_share, usable};
 use crate::reference::{everybody, members};
 
@@ -189,25 +190,37 @@ impl Handed<'_> {
     /// Opens by both sides, checks the demands and notes the classes. Now and then the program
     /// opens it too.
     pub fn open(&self, round: &mut Round, kind: &str) -> Opened {
+        let answer = self.open_by_calls(round, kind);
+        program::try_hand_in(round, kind, self);
+        answer
+    }
+
+    /// The same without the program.
+    pub fn open_by_calls(&self, round: &mut Round, kind: &str) -> Opened {
         let call = self.call(&mut round.random);
         let answer = round.ledger.compare(kind, &call);
         self.check_pairs(round.ledger, kind, &call, &answer);
         self.note_pairs(round.ledger, &answer);
         if matches!(answer.number, 0 | 15 | 16) {
             self.check_demands(round, kind, &call, &answer);
+            self.check_look(round.ledger, kind, &call, &answer);
             self.note(round, &answer);
         }
-        program::try_hand_in(round, kind, self);
         answer
     }
 
     /// Opens, and demands that answer.
     pub fn expect(&self, round: &mut Round, kind: &str, wanted: &Opened) {
         let answer = self.open(round, kind);
+        self.demand(round, kind, wanted, &answer);
+    }
+
+    /// Demands that the answer is the wanted one.
+    pub fn demand(&self, round: &mut Round, kind: &str, wanted: &Opened, answer: &Opened) {
         let call = self.call(&mut round.random);
-        let right = answer == *wanted;
+        let right = answer == wanted;
         let what = format!("{wanted:?} expected");
-        round.ledger.demand(right, kind, &call, &what, &answer);
+        round.ledger.demand(right, kind, &call, &what, answer);
     }
 
     /// The answer of an opening that is refused, but for 16.
@@ -235,7 +248,7 @@ impl Handed<'_> {
     }
 
     /// The members of the set with at least one share word that is not the dealt one.
-    fn altered(&self, set: u32) -> u32 {
+    pub fn altered(&self, set: u32) -> u32 {
         let layout = self.layout();
         let moved =
             |i: &usize| layout.words(&self.shares, *i) != layout.words(&self.station.shares, *i);
@@ -300,6 +313,17 @@ impl Handed<'_> {
         if honest == self.present {
             let clean = accepted == each_other && mismatched == 0;
             ledger.demand(clean, kind, call, "a mismatch with all as dealt", answer);
+        }
+    }
+
+    /// If all survive, they all agree just if all words pass the quick look.
+    fn check_look(&self, ledger: &mut Ledger, kind: &str, call: &Open, answer: &Opened) {
+        let everybody = self.station.everybody();
+        if answer.survivors == everybody {
+            let agree = answer.number == 0 && answer.agreeing == everybody;
+            let pass = first_to_fail(self.layout(), &self.shares).is_none();
+            let what = "the look says otherwise";
+            ledger.demand(agree == pass, kind, call, what, answer);
         }
     }
 

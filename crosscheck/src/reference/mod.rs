@@ -4,6 +4,7 @@
 pub mod decoding;
 pub mod elimination;
 pub mod field;
+pub mod look;
 pub mod polynomial;
 pub mod program;
 pub mod pruning;
@@ -12,6 +13,8 @@ pub mod text;
 
 #[cfg(test)]
 mod examples;
+#[cfg(test)]
+mod look_examples;
 
 /// The largest word that is a field word.
 pub const LARGEST: u16 = 65520;

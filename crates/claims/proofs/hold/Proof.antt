@@ -8,6 +8,7 @@ use Rattle.claims.proofs.HandIn.{reads-back, at-most, always-fits, hand
 use Rattle.claims.proofs.Instances.{instances}
 use Rattle.claims.proofs.Opening.{opening}
 use Rattle.claims.proofs.Pairs.{pair-counts}
+use Rattle.claims.proofs.QuickLook.{table-rule, quick-look, all-agree, look-instances}
 use Rattle.claims.proofs.Rules.{rules}
 use Rattle.claims.proofs.hold.Statement.{statement}
 use Rattle.claims.proofs.hold.Tie as tie
@@ -31,6 +32,10 @@ hold-spec =
       at-most = at-most;
       always-fits = always-fits;
       hand-in-instances = hand-in-instances;
+      table-rule = table-rule;
+      quick-look = quick-look;
+      all-agree = all-agree;
+      look-instances = look-instances;
       rules = rules;
       examples = examples;
       corners = corners;

@@ -15,7 +15,7 @@ open-at-own-spec =
     -- open_words(..)
     (λ c κs.
     let (start, written) : tie.Start × tie.After-own-points = (search, search) in
-    (search needs, (search needs, (own-written _ _ _ (omega arith) (written .own-points .ensures), search needs, search needs, search needs))))
+    (search needs, (search needs, ((own-written _ _ _ (omega arith) (written .own-points .ensures), search needs, search needs, search needs), search needs))))
     (λ c. search needs)
     (λ c. search needs)
     (λ c. search needs)

@@ -9,16 +9,16 @@ use borrow.Author.Needs.{needs}
 use Rattle.members.specs.Members.{ownPoints}
 use Rattle.shares.specs.Layout.{shareWord}
 use Rattle.reconstruction.proofs.ByWord.{Turned, word-found}
-use Rattle.reconstruction.proofs.AllWords.{Going, own-length, opening-first, opening-none, opening-few, opening-next, opening-last}
+use Rattle.reconstruction.proofs.AllWords.{Going, own-length, opening-begun, opening-none, opening-few, opening-next, opening-last}
 use Rattle.reconstruction.proofs.open_words.Statement.{statement}
 use Rattle.reconstruction.proofs.open_words.Tie as tie
 
 abbrev Inv-loop : tie.InvT-loop
-Inv-loop s shares survived points values₀ f₀ secret₀ agreed₀ k₀ values f secret agreed k =
+Inv-loop s shares points values₀ f₀ secret₀ survived agreed₀ k₀ values f secret agreed k =
     Going (ownPoints (s .t)) (s .t) (s .d) (shareWord (s .t) (s .d) shares) survived agreed secret k × (length values ≡ s .n) × (length f ≡ suc (s .t))
 
 abbrev μ-loop : tie.MeasureT-loop
-μ-loop s shares survived points values₀ f₀ secret₀ agreed₀ k₀ values f secret agreed k = s .d - k
+μ-loop s shares points values₀ f₀ secret₀ survived agreed₀ k₀ values f secret agreed k = s .d - k
 
 -- the places of the code that the answers below name
 abbrev Start : Type 0
@@ -36,7 +36,7 @@ Decoded = tie.After-decode-word Inv-loop μ-loop
 -- the decoder has found a polynomial
 turned : (c : tie.After-meeting-members Inv-loop μ-loop)
     → let (start, loop, value) : Start × Loop × tie.After-evaluate Inv-loop μ-loop = (search, search, search) in
-    Turned (ownPoints (start .args .s .t)) (start .args .s .t) (shareWord (start .args .s .t) (start .args .s .d) (start .args .shares .now)) (start .args .survived)
+    Turned (ownPoints (start .args .s .t)) (start .args .s .t) (shareWord (start .args .s .t) (start .args .s .d) (start .args .shares .now)) (start .args .at .survived)
     (loop .loop .agreed) (loop .loop .k) (c .meeting-members .result) (value .evaluate .result)
 turned c = search word-found
 
@@ -47,7 +47,7 @@ open-words-spec =
     Inv-loop
     μ-loop
     -- while k < s.d
-    (λ c. (search opening-first, search needs, search needs))
+    (λ c. (search opening-begun, search needs, search needs))
     -- let decoding::Outcome::Found = decode_word(s, shares, k, survived, agreed, values, f)
     (λ c κs. search needs)
     (λ c. search needs)
@@ -65,7 +65,7 @@ open-words-spec =
     -- agreed = meeting_members(points, values, f, agreed)
     (λ c κs.
     let (start, loop, decoded) : Start × Loop × Decoded = (search, search, search) in
-    let many : length (start .args .points .now) ≡ start .args .s .n = own-length (start .pre .0) (start .pre .1 .0) (start .pre .1 .1 .0) in
+    let many : length (start .args .points .now) ≡ start .args .s .n = own-length (start .pre .0) (start .pre .1 .0) (start .pre .1 .1 .0 .0) in
     (omega arith, omega arith))
     -- if too_few(s.t, survived, agreed) { return refuse(secret, 16, survived) }
     (λ c κs. search needs)

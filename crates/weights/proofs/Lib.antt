@@ -1,0 +1,3 @@
+-- What is proved of this crate.
+pub mod Examples
+pub mod Lines
