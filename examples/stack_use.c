@@ -162,6 +162,10 @@ static void open_words(size_t d)
     quorum = (uint16_t)(t + 1);
     measure(&open_, RUTZEBAM_OK);
     present = (uint32_t)((1u << n) - 1);
+    /* one member altered in the last word alone, after words that pass the quick look */
+    shares[d - 1] = (uint16_t)((shares[d - 1] + 1) % 65521);
+    measure(&open_, 1 <= t / 2 ? RUTZEBAM_OK : RUTZEBAM_TOO_FEW_AGREE);
+    memcpy(shares, dealt, sizeof shares);
     /* more and more members altered, each in another word, the first ones first */
     for (size_t e = 1; e <= t; e++) {
         size_t place = (e - 1) * width + (e - 1) % d;

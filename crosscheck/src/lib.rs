@@ -1,5 +1,5 @@
-//! A check of the sharing library and its program from outside: another implementation of the same
-//! rules, the library's calls, the program, generated cases, and the comparison.
+//! A check of the sharing library and its programs from outside: another implementation of the same
+//! rules, the library's calls, the programs, generated cases, and the comparison.
 
 #![deny(unsafe_code)]
 

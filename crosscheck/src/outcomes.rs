@@ -220,6 +220,7 @@ fn looks() -> Vec<String> {
         names.extend((0..t).map(|m| format!("look: fails at power {m} alone, t = {t}")));
         let n = 2 * t + 1;
         names.extend((1..=n).map(|i| format!("look: member {i} of {n} off alone")));
+        names.extend((1..=n).map(|i| format!("look: member {i} of {n} alone not 0")));
         let passing = |way| format!("look: {way}, the words of all would pass, t = {t}");
         names.extend(GONE.map(passing));
     }

@@ -12,7 +12,6 @@ use lib.ListN.{length}
 use borrow.Author.Tests.{eq-eqb, eqb-false}
 use Rattle.lists.specs.Tabulate.{tab, all, count, keep, each, first, concat, choose}
 use Rattle.lists.proofs.Bools.{test, clash, and-left, and-right}
-use Rattle.lists.proofs.Count.{count-all}
 use Rattle.lists.proofs.Every.{Every}
 use Rattle.lists.proofs.Tabulate.{all-elim}
 use Rattle.field.specs.Field.{prime, difference, product, power, inverse}
@@ -21,8 +20,7 @@ use Rattle.polynomial.specs.Polynomial.{eval, value, linear, slopes, interpolat
 use Rattle.mac.specs.Tag.{tag}
 use Rattle.mac.proofs.Tags.{tag-first}
 use Rattle.members.specs.Members.{size, ownPoints, bit, has, setOf, firstOf, card, membersOf}
-use Rattle.members.proofs.Masks.{card-setOf}
-use Rattle.members.proofs.Words.{size-31, firstOf-all, firstOf-lt, setOf-none}
+use Rattle.members.proofs.Words.{size-31, firstOf-lt, card-firstOf, setOf-none}
 use Rattle.shares.specs.Layout.{width, assembled, word, shareWord, shareWords, tagWord, keyα, keyβ}
 use Rattle.shares.specs.Sample.{sample}
 use Rattle.shares.proofs.Same.{same-tag}
@@ -129,7 +127,7 @@ complete-set t day other quorum secret random dealt dealing some dated another i
     let r : Acceptable t other secret random (dealing .buffer) = in-range t other secret random dealt dealing in
     let is : dealt ≡ dealtShares (ownPoints t) t other secret random = dealt-is t other secret random dealt dealing in
     let few : n ≤ 32 = omega (arith, size-31 t (r .threshold-high)) in
-    let whole : card n (firstOf n) ≡ n = ap (card n) (firstOf-all n few) ∙ card-setOf n (λ i. true) ∙ count-all n (λ i. true) (λ i h. refl) in
+    let whole : card n (firstOf n) ≡ n = card-firstOf n few in
     let as-dealt : (i : ℕ) → i < n → has (firstOf n) i ≡ true → AsDealt t d (firstOf n) dealt dealt i =
     λ i h e. record { is-present = e; same = λ k l. refl } in
     let usable-are : usable t d (firstOf n) dealt ≡ firstOf n =

@@ -9,13 +9,14 @@ use Rattle.lists.specs.Tabulate.{all}
 use Rattle.field.specs.Field.{isFieldWord}
 use Rattle.members.specs.Members.{isThreshold, size, ownPoints, firstOf}
 use Rattle.decoding.specs.Decoding.{find}
-use Rattle.reconstruction.specs.Reconstruction.{Opened, openedFrom}
+use Rattle.reconstruction.specs.Reconstruction.{Opened, unopened, openedFrom}
 use Rattle.parity.specs.Examples.{wordsOf, squares, cubes}
-use Rattle.parity.specs.Parity.{IsWeight, weights, place, parity, balanced, Lies}
+use Rattle.parity.specs.Parity.{IsWeight, weight, weights, place, parity, balanced, Lies}
 
--- the table has 255 words; at the place of each member of each station stands the one word that meets the rule
+-- the table has 255 words; at the place of each member of each station stands its weight, which is the one word that meets the rule
 pub record TableRule : Type 0 where
   pub many : length weights ≡ 255
+  pub stands : (t i : ℕ) → isThreshold t ≡ true → i < size t → getD weights (place t i) 0 ≡ weight (size t) i
   pub each : (t i : ℕ) → isThreshold t ≡ true → i < size t → IsWeight (size t) i (getD weights (place t i) 0)
   pub only : (t i w : ℕ) → isThreshold t ≡ true → i < size t → IsWeight (size t) i w → w ≡ getD weights (place t i) 0
 
@@ -45,3 +46,7 @@ pub record LookInstances : Type 0 where
   -- 65521 is no field word, passes as 0 would, and lies on nothing: that the words are field words is needed
   pub above-p-passes : balanced 1 (wordsOf (65521 ∷ 0 ∷ 0 ∷ [])) ≡ true
   pub above-p-does-not : ¬ Lies 1 (wordsOf (65521 ∷ 0 ∷ 0 ∷ []))
+  -- and with it not all agree, though the word passes: nobody does, it is refused
+  pub above-p-refused :
+      openedFrom (ownPoints 1) 1 1 (λ i k. wordsOf (65521 ∷ 0 ∷ 0 ∷ []) i) 7 (find (ownPoints 1) 1 1 (λ i k. wordsOf (65521 ∷ 0 ∷ 0 ∷ []) i) 7)
+      ≡ unopened 1 7 16

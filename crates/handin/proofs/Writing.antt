@@ -9,7 +9,7 @@ use native.Mathlib.Omega.{arith}
 use lib.ListN.{length, take, drop, length-append}
 use Rattle.lists.specs.Ascii.{ascii}
 use Rattle.lists.specs.Tabulate.{tab, concat}
-use Rattle.lists.proofs.Blocks.{concat-more, concat-le}
+use Rattle.lists.proofs.Blocks.{concat-more}
 use Rattle.members.specs.Members.{has}
 use Rattle.shares.specs.Layout.{word, share}
 use Rattle.shares.specs.Internal.Shape.{Room, At}
@@ -18,7 +18,7 @@ use Rattle.shares.proofs.Reading.{lent, share-at}
 use Rattle.text.specs.Lines.{field, line}
 use Rattle.text.specs.Internal.Writing.{Written}
 use Rattle.text.proofs.Printing.{length-from}
-use Rattle.text.proofs.Writing.{written-none, written-then, written-length, written-as}
+use Rattle.text.proofs.Writing.{written-none, written-as}
 use Rattle.handin.specs.Writer.{shareLine, shareLines}
 
 -- ---- one member
@@ -59,7 +59,7 @@ module _ (s : Shape) (words : List ℕ) (i p : ℕ) (b : Bool) (room : Room s wo
 -- ---- member after member
 
 module _ (t d present : ℕ) (words : List ℕ) where
-  abbrev memberLine : ℕ → List ℕ
+  abbrev pub memberLine : ℕ → List ℕ
   memberLine i = cond (has present i) (shareLine t d words i) []
 
   pub lines-more : (i : ℕ) → shareLines t d present words (suc i) ≡ shareLines t d present words i ++ memberLine i
@@ -68,10 +68,6 @@ module _ (t d present : ℕ) (words : List ℕ) where
 
   pub length-more : (i : ℕ) → length (shareLines t d present words (suc i)) ≡ length (shareLines t d present words i) + length (memberLine i)
   length-more i = ap length (lines-more i) ∙ length-append (shareLines t d present words i) (memberLine i)
-
-  lines-le : (i n : ℕ) → i ≤ n → length (shareLines t d present words i) ≤ length (shareLines t d present words n)
-  unfolding shareLines
-  lines-le i n h = concat-le i n memberLine h
 
   no-lines : shareLines t d present words 0 ≡ []
   unfolding shareLines tab concat
@@ -91,24 +87,3 @@ module _ (t d present : ℕ) (words : List ℕ) where
 
   pub counted-last : (n count i : ℕ) → n ≤ i → Counted n count i → count ≡ length (shareLines t d present words n)
   counted-last n count i h c = let e : i ≡ n = omega (arith, c .inside) in rw e at (c .so-far)
-
-  -- they are written
-  pub record Lined (n : ℕ) (before : List ℕ) (at : ℕ) (output : List ℕ) (end i : ℕ) : Type 0 where
-    pub inside : i ≤ n
-    pub written : Written before at (shareLines t d present words i) output end
-
-  pub lined-first : (n : ℕ) (before : List ℕ) (at : ℕ) → at ≤ length before → Lined n before at before at 0
-  lined-first n before at h = record { inside = zero-le; written = rw no-lines (written-none before at h) }
-
-  module _ {n : ℕ} {before : List ℕ} {at : ℕ} {output : List ℕ} {end i : ℕ} (l : Lined n before at output end i) where
-    -- the next line has room
-    pub lined-room : i < n → at + length (shareLines t d present words n) ≤ length before → end + length (memberLine i) ≤ length output
-    lined-room h r =
-        let up : length (shareLines t d present words (suc i)) ≤ length (shareLines t d present words n) = lines-le (suc i) n h in
-        omega (arith, up, r, length-more i, l .written .next, written-length (l .written))
-
-    pub lined-next : {after : List ℕ} {next : ℕ} → i < n → Written output end (memberLine i) after next → Lined n before at after next (i + 1)
-    lined-next h w = record { inside = omega arith; written = rw (add-one i, lines-more i) (written-then (l .written) w) }
-
-    pub lined-last : n ≤ i → Written before at (shareLines t d present words n) output end
-    lined-last h = let e : i ≡ n = omega (arith, l .inside) in rw e at (l .written)

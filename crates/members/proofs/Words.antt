@@ -16,7 +16,7 @@ use borrow.Author.Tests.{eq-eqb, eqb-true, eqb-false, ne-eqb, lt-ltb, le-ltb, lt
 use Rattle.lists.specs.Tabulate.{count}
 use Rattle.lists.proofs.Bools.{test, clash, or-no, or-yes, and-yes, and-no}
 use Rattle.lists.proofs.Checks.{within-high}
-use Rattle.lists.proofs.Count.{count-more}
+use Rattle.lists.proofs.Count.{count-more, count-all}
 use Rattle.members.specs.Members.{isThreshold, size, has, setOf, isSet, card, adding, striking, firstOf, common}
 use Rattle.members.specs.Internal.Lowest.{Lowest}
 use Rattle.members.proofs.Masks.{has-setOf, setOf-lt, setOf-has, setOf-ext, same-members, has-zero, has-above, has-and, has-or, has-not, has-power, has-shift, ones-and, suc-everyone, card-more}
@@ -102,6 +102,14 @@ unfolding firstOf
 firstOf-beyond n l =
     ap suc (setOf-ext 32 (λ i. ltb i n) (λ i. true) (λ i k. lt-ltb i n (lt-of-lt-of-le k l))) ∙ suc-everyone 32
 
+-- each of the n members is in, and there are n
+pub has-firstOf : (n i : ℕ) → n ≤ 32 → i < n → has (firstOf n) i ≡ true
+has-firstOf n i l h = ap (λ (m : ℕ). has m i) (firstOf-all n l) ∙ has-setOf n (λ j. true) i h
+
+pub card-firstOf : (n : ℕ) → n ≤ 32 → card n (firstOf n) ≡ n
+unfolding card
+card-firstOf n l = count-all n (has (firstOf n)) (λ i h. has-firstOf n i l h)
+
 -- a mask has no bit beyond the n members if it is at most all of them
 pub firstOf-isSet : (n m : ℕ) → n ≤ 32 → leb m (firstOf n) ≡ isSet n m
 firstOf-isSet n m l = sym (leb·suc-suc m (firstOf n)) ∙ ap (leb (suc m)) (firstOf-power n l)
@@ -156,7 +164,11 @@ common-count n a b l h =
 
 -- ---- a station's members
 
--- at most 31
+-- at least 1 and at most 31
+pub size-pos : (t : ℕ) → 1 ≤ size t
+unfolding size
+size-pos t = omega arith
+
 pub size-31 : (t : ℕ) → t ≤ 15 → size t ≤ 31
 unfolding size
 size-31 t h = omega arith

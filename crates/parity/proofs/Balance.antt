@@ -42,7 +42,7 @@ inside k m n l r = (omega arith, omega arith)
 here : (k n : ℕ) → k < k + suc n
 here k n = omega arith
 
-pub kills : (n : ℕ) (a x : ℕ → ℕ) (g : List ℕ) (k : ℕ) → ((m : ℕ) → k ≤ m → m < k + length g → sumTo n (λ i. a i * x i ^ m) ≈ 0)
+kills : (n : ℕ) (a x : ℕ → ℕ) (g : List ℕ) (k : ℕ) → ((m : ℕ) → k ≤ m → m < k + length g → sumTo n (λ i. a i * x i ^ m) ≈ 0)
     → sumTo n (λ i. a i * x i ^ k * eval g (x i)) ≈ 0
 unfolding eval
 kills n a x [] k h = sum-zero n (λ i. a i * x i ^ k * 0) (λ i l. same-eq (mul-zero (a i * x i ^ k)))
@@ -72,7 +72,7 @@ pub lies-at : {t : ℕ} {y : ℕ → ℕ} → (l : Lies t y) → (i : ℕ) → i
 lies-at l i h = same-trans (same-eq (sym (l .meets i h))) (value-same (l .f) (suc i))
 
 module _ (t : ℕ) (low : 1 ≤ t) (high : t ≤ 15) where
-  pub moment : (m : ℕ) → m < 2 * t → sumTo (size t) (λ i. weight (size t) i * suc i ^ m) ≈ 0
+  moment : (m : ℕ) → m < 2 * t → sumTo (size t) (λ i. weight (size t) i * suc i ^ m) ≈ 0
   unfolding null parity
   moment m h =
       let term : ℕ → ℕ = λ i. weight (size t) i * suc i ^ m in
@@ -80,7 +80,7 @@ module _ (t : ℕ) (low : 1 ≤ t) (high : t ≤ 15) where
       (record { same = eqb-true _ 0 (all-elim (2 * t) (λ m. eqb (parity (size t) m (λ i. 1)) 0) (station null all-null t low high) m h) })
 
   -- so with every polynomial of degree at most t, times a power below t
-  pub moments : (f : List ℕ) (m : ℕ) → m + length f ≤ 2 * t → sumTo (size t) (λ i. weight (size t) i * suc i ^ m * eval f (suc i)) ≈ 0
+  moments : (f : List ℕ) (m : ℕ) → m + length f ≤ 2 * t → sumTo (size t) (λ i. weight (size t) i * suc i ^ m * eval f (suc i)) ≈ 0
   moments f m h = kills (size t) (weight (size t)) suc f m (λ k l r. moment k (omega arith))
 
   lies-sum : (y : ℕ → ℕ) → Lies t y → (m : ℕ) → m < t → sumTo (size t) (λ i. weight (size t) i * suc i ^ m * y i) ≈ 0

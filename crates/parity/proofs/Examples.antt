@@ -5,11 +5,11 @@ use Rattle.lists.specs.Tabulate.{tab, all, sumTo, concat}
 use Rattle.field.specs.Field.{product, power, inverse}
 use Rattle.members.specs.Members.{size}
 use Rattle.parity.specs.Parity.{factorial, sign, weight, weights, parity, balanced}
-use Rattle.parity.specs.Internal.Looking.{leading, zeroScale, zeroWeight, constant, looked, opened}
+use Rattle.parity.specs.Internal.Looking.{leading, zeroScale, zeroWeight, constant, looked, withValues}
 use Rattle.parity.specs.Examples.{Examples}
 
 pub examples : Examples
-unfolding tab all sumTo concat product power inverse size factorial sign weight weights parity balanced leading zeroScale zeroWeight constant looked opened
+unfolding tab all sumTo concat product power inverse size factorial sign weight weights parity balanced leading zeroScale zeroWeight constant looked withValues
 examples =
     record {
       of-three = refl;

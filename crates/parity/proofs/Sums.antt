@@ -36,7 +36,7 @@ pub sum-scaled : (n c : ℕ) (f h : ℕ → ℕ) → ((i : ℕ) → i < n → h 
 sum-scaled n c f h e = same-trans (same-sum n h (λ i. c * f i) e) (same-eq (sumTo-scale n c f))
 
 -- a sum whose terms are c · f + d · g
-pub sum-both : (n c d : ℕ) (f g h : ℕ → ℕ) → ((i : ℕ) → i < n → h i ≈ c * f i + d * g i) → sumTo n h ≈ c * sumTo n f + d * sumTo n g
+sum-both : (n c d : ℕ) (f g h : ℕ → ℕ) → ((i : ℕ) → i < n → h i ≈ c * f i + d * g i) → sumTo n h ≈ c * sumTo n f + d * sumTo n g
 sum-both n c d f g h e =
     same-trans (same-sum n h (λ i. c * f i + d * g i) e)
     (same-trans (same-eq (sumTo-add n (λ i. c * f i) (λ i. d * g i)))

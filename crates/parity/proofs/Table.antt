@@ -68,8 +68,8 @@ module _ {n i w : ℕ} (r : IsWeight n i w) where
   factorials-not-0 : factorial i * factorial (n - suc i) ≈ 0 → ⊥
   factorials-not-0 z = sign-not-0 (n - suc i) (same-trans (same-sym rule-same) (same-trans (z ⊗ same-refl) (same-eq (zero-mul w))))
 
-only : {n i v w : ℕ} → IsWeight n i v → IsWeight n i w → v ≡ w
-only {n} {i} q r =
+one-word : {n i v w : ℕ} → IsWeight n i v → IsWeight n i w → v ≡ w
+one-word {n} {i} q r =
     eq-same (q .word) (r .word) (cancel (factorial i * factorial (n - suc i)) (factorials-not-0 r) (same-trans (rule-same q) (same-sym (rule-same r))))
 
 module _ (t i : ℕ) (low : 1 ≤ t) (high : t ≤ 15) (inside : i < size t) where
@@ -90,8 +90,4 @@ module _ (t i : ℕ) (low : 1 ≤ t) (high : t ≤ 15) (inside : i < size t) whe
       }
 
 pub only-weight : (t i w : ℕ) → 1 ≤ t → t ≤ 15 → i < size t → IsWeight (size t) i w → w ≡ weight (size t) i
-only-weight t i w low high inside r = only r (is-weight t i low high inside)
-
-pub weights-length : length weights ≡ 255
-unfolding weights tab concat size
-weights-length = refl
+only-weight t i w low high inside r = one-word r (is-weight t i low high inside)

@@ -3,7 +3,7 @@
 use mathlib.Core.Path.{_≡_, refl, sym, ap, ap₂, _∙_, subst}
 use mathlib.Core.Logic.{inl, inr}
 use mathlib.Core.Bool.{Bool, true, false, cond, _&&_}
-use mathlib.Core.List.{List, [], _∷_, _++_}
+use mathlib.Core.List.{List}
 use Prim.Native.Nat.{ℕ, zero, suc, _+_, _-_, _*_, _%_, _^_, _≤_, _<_, zero-le, suc-le-suc}
 use native.Mathlib.Nat.{le-refl, le-of-suc-le-suc, not-suc-le-zero, mul-one, mul-assoc, pow-suc, pow-zero}
 use native.Mathlib.Numerals.{add-one}
@@ -23,7 +23,7 @@ use Rattle.field.proofs.Congruence.{_≈_, same-refl, same-trans, same-eq, redu
 use Rattle.field.proofs.Operations.{product-same}
 use Rattle.members.specs.Members.{size}
 use Rattle.parity.specs.Parity.{factorial, weight, parity, balanced}
-use Rattle.parity.specs.Internal.Looking.{leading, zeroScale, zeroWeight, constant, dot, looked, opened}
+use Rattle.parity.specs.Internal.Looking.{leading, zeroScale, zeroWeight, constant, dot, looked, withValues}
 use Rattle.parity.proofs.Sums.{same-sum}
 
 -- the products of the first i members are summed; 31 of them are far below 2 ^ 64
@@ -71,11 +71,6 @@ factorial-next k result w h e =
 pub factorial-last : (n k result : ℕ) → k ≡ n → result ≡ factorial k % prime → result ≡ factorial n % prime
 factorial-last n k result e h = h ∙ ap (λ (m : ℕ). factorial m % prime) e
 
--- a station has members
-pub size-pos : (t : ℕ) → 1 ≤ size t
-unfolding size
-size-pos t = omega arith
-
 -- the weight for the value at 0, as it is made
 module _ (n scale i next : ℕ) (en : next ≡ i + 1) where
   pub no-next : n ≤ next → 0 ≡ cond (ltb (suc i) n) (product scale (weight n (suc i))) 0
@@ -118,7 +113,7 @@ leading-all (suc n) p h =
     ap suc (leading-all n (λ j. p (suc j)) (λ j m. h (suc j) (suc-le-suc m)))
     ∙ sym (ap (λ (b : Bool). cond b (suc (leading n (λ k. p (suc k)))) 0) (h 0 (suc-le-suc zero-le)))
 
-pub leading-le : (n : ℕ) (p : ℕ → Bool) → leading n p ≤ n
+leading-le : (n : ℕ) (p : ℕ → Bool) → leading n p ≤ n
 unfolding leading
 leading-le zero p = zero-le
 leading-le (suc n) p =
@@ -138,7 +133,7 @@ leading-passes (suc n) p j l = at (p 0) refl j l (leading-passes n (λ k. p (suc
     at true e (suc j) m h = h j (le-of-suc-le-suc m)
     at false e j m h = absurd (not-suc-le-zero m)
 
-pub leading-ext : (n : ℕ) (p q : ℕ → Bool) → ((j : ℕ) → p j ≡ q j) → leading n p ≡ leading n q
+leading-ext : (n : ℕ) (p q : ℕ → Bool) → ((j : ℕ) → p j ≡ q j) → leading n p ≡ leading n q
 unfolding leading
 leading-ext zero p q h = refl
 leading-ext (suc n) p q h =
@@ -150,7 +145,7 @@ unfolding leading
 leading-two true k q = refl
 leading-two false k q = refl
 
-pub leading-both : (n : ℕ) (p q : ℕ → Bool) → leading (leading n p) q ≡ leading n (λ k. p k && q k)
+leading-both : (n : ℕ) (p q : ℕ → Bool) → leading (leading n p) q ≡ leading n (λ k. p k && q k)
 unfolding leading
 leading-both zero p q = refl
 leading-both (suc n) p q =
@@ -223,8 +218,8 @@ looked-le t d y left e = subst (λ (n : ℕ). n ≤ d) (sym e) (leading-le d (λ
 
 -- the values that are stored are those at 0
 pub stored-values : (t n : ℕ) (y : ℕ → ℕ → ℕ) (row : List ℕ) (k : ℕ) (before after : List ℕ) → n ≡ size t → row ≡ tab (size t) (zeroWeight (size t))
-    → after ≡ sets before 0 (tab k (λ j. dot n row (λ i. y i j))) → after ≡ opened t k y before
-unfolding opened constant dot
+    → after ≡ sets before 0 (tab k (λ j. dot n row (λ i. y i j))) → after ≡ withValues t k y before
+unfolding withValues constant dot
 stored-values t n y row k before after en er ea =
     ea
     ∙ ap (sets before 0)
@@ -235,8 +230,8 @@ stored-values t n y row k before after en er ea =
     (λ i h. ap (λ (w : ℕ). w * y i j) (ap (λ (r : List ℕ). getD r i 0) er ∙ getD-tab (size t) (zeroWeight (size t)) i 0 h)))))
 
 -- and are read there
-pub opened-at : (t k : ℕ) (y : ℕ → ℕ → ℕ) (secret : List ℕ) (j : ℕ) → k ≤ length secret → j < k → getD (opened t k y secret) j 0 ≡ constant (size t) (λ i. y i j)
-unfolding opened
+pub opened-at : (t k : ℕ) (y : ℕ → ℕ → ℕ) (secret : List ℕ) (j : ℕ) → k ≤ length secret → j < k → getD (withValues t k y secret) j 0 ≡ constant (size t) (λ i. y i j)
+unfolding withValues
 opened-at t k y secret j h l =
     let f : ℕ → ℕ = λ j. constant (size t) (λ i. y i j) in
     sym (getD-take k (sets secret 0 (tab k f)) j 0 l)

@@ -3,11 +3,11 @@
 use mathlib.Core.Path.{_≡_, refl, sym, ap, _∙_}
 use mathlib.Core.Bool.{Bool, true, cond, _&&_}
 use mathlib.Core.List.{List}
-use Prim.Native.Nat.{ℕ, suc, _+_, _*_, _%_, _^_, _≤_, _<_, suc-le-suc}
+use Prim.Native.Nat.{ℕ, suc, _+_, _*_, _%_, _^_, _≤_, _<_}
 use native.Mathlib.Nat.{le-of-eq, mul-assoc}
 use native.Mathlib.Numerals.{add-one}
 use native.Mathlib.Omega.{arith}
-use lib.Dec.{eqb, ltb}
+use lib.Dec.{eqb}
 use lib.ListN.{length}
 use borrow.Author.Tests.{eqb-true, lt-ltb, le-ltb}
 use Rattle.lists.specs.Tabulate.{all, sumTo}
@@ -70,9 +70,9 @@ module _ (t : ℕ) (low : 1 ≤ t) (high : t ≤ 15) where
       (kills-all (size t) (weight (size t)) (λ i. i) f (λ m h. moment-0 m (omega arith)))
 
   -- the weights for the value at 0: those of the next members scaled, and none for the last
-  by-next : (i e : ℕ) → i < 2 * t → zeroWeight (size t) i * e ≈ zeroScale (size t) * (weight (size t) (suc i) * e)
+  next-scaled : (i e : ℕ) → i < 2 * t → zeroWeight (size t) i * e ≈ zeroScale (size t) * (weight (size t) (suc i) * e)
   unfolding zeroWeight
-  by-next i e h =
+  next-scaled i e h =
       same-trans
       (same-trans
       (same-eq
@@ -93,7 +93,7 @@ module _ (t : ℕ) (low : 1 ≤ t) (high : t ≤ 15) where
       same-trans
       (same-eq (ap (λ (n : ℕ). sumTo n term) members ∙ sumTo-last (2 * t) term ∙ ap (λ (w : ℕ). sumTo (2 * t) term + w * eval f (suc (2 * t))) none-last))
       (same-trans
-      (sum-scaled (2 * t) (zeroScale (size t)) (λ i. weight (size t) (suc i) * eval f (suc i)) term (λ i l. by-next i (eval f (suc i)) l) ⊕ same-refl)
+      (sum-scaled (2 * t) (zeroScale (size t)) (λ i. weight (size t) (suc i) * eval f (suc i)) term (λ i l. next-scaled i (eval f (suc i)) l) ⊕ same-refl)
       (same-trans (same-eq (last (zeroScale (size t) * others f) (eval f (suc (2 * t)))))
       (rest (zeroScale (size t)) (weight (size t) 0) (eval f 0) (others f) scaled (with-0 f d))))
     where

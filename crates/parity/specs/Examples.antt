@@ -5,7 +5,7 @@ use mathlib.Core.Bool.{true, false}
 use mathlib.Core.List.{List, [], _∷_}
 use lib.ListN.{length, getD, take, drop, replicate}
 use Rattle.parity.specs.Parity.{sign, weights, place, parity, balanced}
-use Rattle.parity.specs.Internal.Looking.{constant, looked, opened}
+use Rattle.parity.specs.Internal.Looking.{constant, looked, withValues}
 
 -- the words of members 0, 1, ..
 abbrev pub wordsOf : List ℕ → ℕ → ℕ
@@ -51,4 +51,4 @@ pub record Examples : Type 0 where
   pub all-pass : looked 1 2 (placesOf ((253 ∷ 256 ∷ 259 ∷ []) ∷ (1 ∷ 2 ∷ 3 ∷ []) ∷ [])) ≡ 2
   pub second-fails : looked 1 3 (placesOf ((253 ∷ 256 ∷ 259 ∷ []) ∷ (1 ∷ 2 ∷ 4 ∷ []) ∷ (5 ∷ 5 ∷ 5 ∷ []) ∷ [])) ≡ 1
   pub first-fails : looked 1 2 (placesOf ((1 ∷ 2 ∷ 4 ∷ []) ∷ (5 ∷ 5 ∷ 5 ∷ []) ∷ [])) ≡ 0
-  pub stored : opened 1 1 (placesOf ((253 ∷ 256 ∷ 259 ∷ []) ∷ [])) (replicate 3 9) ≡ 250 ∷ 9 ∷ 9 ∷ []
+  pub stored : withValues 1 1 (placesOf ((253 ∷ 256 ∷ 259 ∷ []) ∷ [])) (replicate 3 9) ≡ 250 ∷ 9 ∷ 9 ∷ []

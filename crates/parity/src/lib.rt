@@ -12,7 +12,7 @@ ghost use Rattle.members.specs.Members.{size};
 ghost use Rattle.shares.specs.Layout.{shareWord};
 ghost use Rattle.shares.specs.Internal.Shape.{Room};
 ghost use Rattle.parity.specs.Parity.{factorial as factorialOf, weight as weightOf};
-ghost use Rattle.parity.specs.Internal.Looking.{leading, zeroWeight, dot as dotOf, looked, opened};
+ghost use Rattle.parity.specs.Internal.Looking.{leading, zeroWeight, dot as dotOf, looked, withValues};
 
 // The weights of n = 3, 5, .., 31 members.
 const WEIGHTS: [u16; 255] = [
@@ -419,7 +419,7 @@ fn look_by_rows(s: Shape, shares: &[u16], row: &mut [u16], secret: &mut [u16]) -
     requires { ⌜ Room s (now shares) ⌝ }
     requires { ⌜ (length (now row) ≡ s .n) × (length (now secret) ≡ s .d) ⌝ }
     ensures { λ r. ⌜ r ≡ looked (s .t) (s .d) (shareWord (s .t) (s .d) (now (shares .entry))) ⌝ }
-    ensures { λ r. ⌜ now (secret .exit) ≡ opened (s .t) r (shareWord (s .t) (s .d) (now (shares .entry))) (now (secret .entry)) ⌝ }
+    ensures { λ r. ⌜ now (secret .exit) ≡ withValues (s .t) r (shareWord (s .t) (s .d) (now (shares .entry))) (now (secret .entry)) ⌝ }
 {
     let left = count_balanced(s, shares, row);
     fill_zero_weights(s.t, row);
@@ -432,7 +432,7 @@ pub fn look(s: Shape, shares: &[u16], secret: &mut [u16]) -> usize
     requires { ⌜ Room s (now shares) ⌝ }
     requires { ⌜ length (now secret) ≡ s .d ⌝ }
     ensures { λ r. ⌜ r ≡ looked (s .t) (s .d) (shareWord (s .t) (s .d) (now (shares .entry))) ⌝ }
-    ensures { λ r. ⌜ now (secret .exit) ≡ opened (s .t) r (shareWord (s .t) (s .d) (now (shares .entry))) (now (secret .entry)) ⌝ }
+    ensures { λ r. ⌜ now (secret .exit) ≡ withValues (s .t) r (shareWord (s .t) (s .d) (now (shares .entry))) (now (secret .entry)) ⌝ }
 {
     let n = s.n;
     let mut row = [0u16; 31];

@@ -2,26 +2,25 @@
 -- Assumes nothing.
 use mathlib.Core.Path.{_≡_, refl, sym, ap, _∙_, subst}
 use mathlib.Core.Logic.{inl, inr}
-use mathlib.Core.Bool.{Bool, true, false, cond}
+use mathlib.Core.Bool.{Bool, true, cond}
 use mathlib.Core.List.{List}
-use Prim.Native.Nat.{ℕ, suc, _≤_, _<_, zero-le}
+use Prim.Native.Nat.{ℕ, _≤_, _<_, zero-le}
 use native.Mathlib.Nat.{le-trans, le-of-eq, lt-of-lt-of-le, not-suc-le-zero}
 use native.Mathlib.Omega.{arith}
 use lib.Dec.{eqb, ltb}
 use lib.ListN.{length, getD}
-use lib.Seq.{sets}
 use borrow.Author.Tests.{eqb-true, eq-eqb, ne-eqb, lt-ltb}
 use Rattle.lists.specs.Tabulate.{tab}
 use Rattle.lists.proofs.Bools.{test}
 use Rattle.polynomial.specs.Polynomial.{value}
 use Rattle.members.specs.Members.{size, ownPoints, has, firstOf}
-use Rattle.members.proofs.Masks.{has-setOf}
 use Rattle.members.proofs.Points.{own-point}
+use Rattle.members.proofs.Words.{has-firstOf}
 use Rattle.shares.specs.Layout.{shareWord}
 use Rattle.shares.specs.Internal.Shape.{Room}
 use Rattle.shares.specs.declared.Shape.{Shape}
 use Rattle.parity.specs.Parity.{balanced, Lies}
-use Rattle.parity.specs.Internal.Looking.{looked, opened}
+use Rattle.parity.specs.Internal.Looking.{looked, withValues}
 use Rattle.parity.proofs.Balance.{balanced-lies}
 use Rattle.parity.proofs.Turns.{leading-passes, looked-le, opened-at}
 use Rattle.parity.proofs.Zero.{constant-is}
@@ -32,18 +31,13 @@ pub lies-met : (t : ℕ) (y : ℕ → ℕ → ℕ) (s j v : ℕ) (l : Lies t (λ
 lies-met t y s j v l e =
     record { f = l .f; degree = l .degree; meets = λ i h m. ap (value (l .f)) (own-point t i h) ∙ l .meets i h; at-zero = e }
 
--- all n members are in the first n
-pub everybody : (n i : ℕ) → n ≤ 31 → i < n → has (firstOf n) i ≡ true
-unfolding firstOf
-everybody n i few l = has-setOf 32 (λ j. ltb j n) i (omega arith) ∙ lt-ltb i n l
-
 -- nothing is opened, and nothing stored
 pub not-quickly : (shape : Shape) (words : List ℕ) (s all : ℕ) → all ≡ firstOf (shape .n) → (s ≡ all → ⊥) → 0 ≡ quickly shape words s
 not-quickly shape words s all e h =
     sym (ap (λ (b : Bool). cond b (looked (shape .t) (shape .d) (shareWord (shape .t) (shape .d) words)) 0) (ne-eqb s (firstOf (shape .n)) (λ q. h (q ∙ sym e))))
 
-pub none-opened : (t : ℕ) (y : ℕ → ℕ → ℕ) (secret : List ℕ) → secret ≡ opened t 0 y secret
-unfolding opened tab
+pub none-opened : (t : ℕ) (y : ℕ → ℕ → ℕ) (secret : List ℕ) → secret ≡ withValues t 0 y secret
+unfolding withValues tab
 none-opened t y secret = refl
 
 -- all n members survive
@@ -62,7 +56,7 @@ module _ {shape : Shape} {words : List ℕ} (room : Room shape words) {s : ℕ} 
   abbrev y : ℕ → ℕ → ℕ
   y = shareWord t d words
 
-  module _ (r : ℕ) (before after : List ℕ) (after-is : after ≡ opened t r y before) (long : length before ≡ d) where
+  module _ (r : ℕ) (before after : List ℕ) (after-is : after ≡ withValues t r y before) (long : length before ≡ d) where
     looked-begun : s ≡ firstOf (shape .n) → r ≡ looked t d y → Begun (ownPoints t) t d y s r after
     unfolding looked
     looked-begun all er = record { inside = inside; each = each }
@@ -71,7 +65,7 @@ module _ {shape : Shape} {words : List ℕ} (room : Room shape words) {s : ℕ} 
         inside = looked-le t d y r er
 
         own : (i : ℕ) → i < size t → has s i ≡ true
-        own i h = ap (λ (m : ℕ). has m i) all ∙ everybody (shape .n) i (room .station .few) (subst (λ (n : ℕ). i < n) (sym (room .station .members)) h)
+        own i h = ap (λ (m : ℕ). has m i) all ∙ has-firstOf (shape .n) i (omega (arith, room .station .few)) (subst (λ (n : ℕ). i < n) (sym (room .station .members)) h)
 
         lies : (j : ℕ) → j < r → Lies t (λ i. y i j)
         lies j l =

@@ -17,7 +17,7 @@ ghost use Rattle.decoding.specs.Answer.{answerOf as decodedOf};
 ghost use Rattle.decoding.specs.Decoding.{need, find, decodedFrom};
 ghost use Rattle.reconstruction.specs.Answer.{answerOf, answeredOf};
 ghost use Rattle.reconstruction.specs.Reconstruction.{unopened, isQuorum, required, turnedAway, reconstruct as reconstructOf};
-ghost use Rattle.parity.specs.Internal.Looking.{opened};
+ghost use Rattle.parity.specs.Internal.Looking.{withValues};
 ghost use Rattle.reconstruction.specs.Internal.Steps.{Voted, Decodable, Begun, quickly, byWords, byVotes, byShares};
 
 // Opened, with the survivors and those of them that agree; or refused with the documents' number, and with the survivors if that is 16.
@@ -180,7 +180,7 @@ fn open_quickly(s: Shape, shares: &[u16], survived: u32, secret: &mut [u16]) -> 
     requires { ⌜ Room s (now shares) ⌝ }
     requires { ⌜ length (now secret) ≡ s .d ⌝ }
     ensures { λ r. ⌜ r ≡ quickly s (now (shares .entry)) survived ⌝ }
-    ensures { λ r. ⌜ now (secret .exit) ≡ opened (s .t) r (shareWord (s .t) (s .d) (now (shares .entry))) (now (secret .entry)) ⌝ }
+    ensures { λ r. ⌜ now (secret .exit) ≡ withValues (s .t) r (shareWord (s .t) (s .d) (now (shares .entry))) (now (secret .entry)) ⌝ }
 {
     let all = members::first(s.n);
     if survived != all {

@@ -7,7 +7,7 @@ use Rattle.field.specs.Field.{product, power, inverse}
 use Rattle.members.specs.Members.{size}
 use Rattle.parity.specs.Parity.{factorial, sign, weight}
 use Rattle.text.specs.Lines.{digits, field, line}
-use Rattle.weights.specs.Table.{weightLine, memberLines, table}
+use Rattle.weights.specs.WeightTable.{weightLine, memberLines, table}
 use Rattle.weights.specs.Examples.{Examples}
 
 pub examples : Examples

@@ -14,7 +14,7 @@ use Rattle.text.specs.Internal.Writing.{Written}
 use Rattle.text.proofs.Pieces.{Pieces, pieces-room, pieces-next, pieces-last}
 use Rattle.text.proofs.Printing.{length-list}
 use Rattle.text.proofs.Writing.{written-as, written-front}
-use Rattle.weights.specs.Table.{weightLine, memberLines, table}
+use Rattle.weights.specs.WeightTable.{weightLine, memberLines, table}
 use Rattle.weights.proofs.Examples.{examples}
 
 module _ (t n i w : ℕ) (en : n ≡ size t) (e : w ≡ weight (size t) i) where

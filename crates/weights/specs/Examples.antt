@@ -1,10 +1,8 @@
 -- Document 02's example of the table, and its corners. Proved in proofs/Examples.antt.
-use Prim.Native.Nat.{ℕ}
 use mathlib.Core.Path.{_≡_}
-use mathlib.Core.List.{List}
 use lib.ListN.{length, take, drop}
 use Rattle.lists.specs.Ascii.{ascii}
-use Rattle.weights.specs.Table.{weightLine, memberLines, table}
+use Rattle.weights.specs.WeightTable.{weightLine, memberLines, table}
 
 pub record Examples : Type 0 where
   pub first-line : weightLine 3 0 ≡ ascii "3\t1\t32761\n"

@@ -5,7 +5,7 @@ ghost use Prim.Native.Nat.{_+_, _≤_, _<_};
 ghost use lib.ListN.{length};
 ghost use Rattle.members.specs.Members.{size};
 ghost use Rattle.text.specs.Internal.Writing.{Written};
-ghost use Rattle.weights.specs.Table.{weightLine, memberLines, table};
+ghost use Rattle.weights.specs.WeightTable.{weightLine, memberLines, table};
 
 // The line of member i of n = 2t + 1, counted from 0.
 fn put_weight_line(t: usize, i: usize, output: &mut [u8], at: usize) -> usize

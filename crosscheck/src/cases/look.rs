@@ -16,7 +16,7 @@ use crate::reference::{members, need};
 
 /// How a member goes.
 pub const GONE: [&str; 3] = ["absent", "unusable", "struck"];
-/// One in so many of the hand-ins stands among those of which the program gets some.
+/// One in so many of the hand-ins may go to the program `opening` as text too.
 const HAND_INS: usize = 4;
 /// One in so many rounds runs the program `weights`.
 const ROUNDS: u64 = 16;
@@ -284,7 +284,8 @@ fn nobody_off(round: &mut Round, station: &Station) {
     plan.expect(round, "all on the dealt polynomials");
 }
 
-/// Two members in turn, each off alone: in the first, the middle, the last and all of three words.
+/// Two members in turn, each off alone: in the first, the middle, the last and all of three words;
+/// and where all words of all members are 0 but one of its own.
 fn one_off(round: &mut Round, station: &Station) {
     let n = station.layout.n;
     for i in [0, 1].map(|next| (2 * turn(round) + next) % n + 1) {
@@ -295,7 +296,15 @@ fn one_off(round: &mut Round, station: &Station) {
             }
             plan.expect(round, "one member off");
         }
+        let mut plan = Plan::new(&mut round.random, station);
+        for k in 0..station.layout.d {
+            plan.plant(k, &[0]);
+        }
+        plan.take_off(&mut round.random, 0, 1 << (i - 1));
+        plan.expect(round, "one member off");
         let outcome = format!("look: member {i} of {n} off alone");
+        round.ledger.note(outcome);
+        let outcome = format!("look: member {i} of {n} alone not 0");
         round.ledger.note(outcome);
     }
 }
@@ -410,7 +419,7 @@ fn check_power(round: &mut Round, plan: &Plan, k: usize, above: usize) {
 
 /// Two powers in turn, each the only one whose sum is not 0 in one word. If so many sums in a row
 /// are 0, and not all, more members than that are off every polynomial of degree at most t. Those
-/// below power m or those above it are at least half the surplus, so it is 16.
+/// below power m or those above it are at least half the surplus rounded down, so it is 16.
 fn one_sum(round: &mut Round, station: &Station) {
     let t = station.t;
     for m in [0, 1].map(|next| (2 * turn(round) + next) % t) {

@@ -1,10 +1,8 @@
 -- `parity::count_balanced`: before sum m the row is that of the power m, and the words left have the sums before it all 0.
 -- Assumes nothing.
-use mathlib.Core.Path.{sym}
 use Prim.Native.Nat.{_-_}
 use native.Mathlib.Omega.{arith}
 use borrow.Author.Needs.{needs}
-use Rattle.members.specs.Members.{size}
 use Rattle.shares.specs.Layout.{shareWord}
 use Rattle.parity.proofs.Turns.{Balancing, balancing-first, balancing-few, balancing-next, balancing-last}
 use Rattle.parity.proofs.count_balanced.Statement.{statement}

@@ -2,7 +2,6 @@
 -- Assumes nothing.
 use Prim.Native.Nat.{_-_}
 use native.Mathlib.Omega.{arith}
-use lib.ListN.{length}
 use borrow.Author.Needs.{needs}
 use Rattle.lists.proofs.Tables.{Filled, filled-first, filled-next, filled-last}
 use Rattle.members.specs.Members.{size}

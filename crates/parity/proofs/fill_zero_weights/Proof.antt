@@ -5,9 +5,9 @@ use native.Mathlib.Omega.{arith}
 use borrow.Author.Needs.{needs}
 use Rattle.lists.proofs.Tables.{Filled, filled-first, filled-next, filled-last}
 use Rattle.members.specs.Members.{size}
-use Rattle.members.proofs.Words.{size-31}
+use Rattle.members.proofs.Words.{size-pos, size-31}
 use Rattle.parity.specs.Internal.Looking.{zeroWeight}
-use Rattle.parity.proofs.Turns.{size-pos, zero-weight}
+use Rattle.parity.proofs.Turns.{zero-weight}
 use Rattle.parity.proofs.fill_zero_weights.Statement.{statement}
 use Rattle.parity.proofs.fill_zero_weights.Tie as tie
 

@@ -1,5 +1,7 @@
 -- `parity::look_by_rows`: the words that are counted pass, and the row by which they are then summed is that of the value at 0.
 -- Assumes nothing.
+use Prim.Native.Nat.{_≤_}
+use native.Mathlib.Omega.{arith}
 use borrow.Author.Needs.{needs}
 use Rattle.parity.proofs.Turns.{looked-le, stored-values}
 use Rattle.parity.proofs.look_by_rows.Statement.{statement}
@@ -15,8 +17,9 @@ look-by-rows-spec =
     (λ c κs. search needs)
     -- store_values(s, shares, row, left, secret)
     (λ c κs.
-    let counted : tie.After-count-balanced = search in
-    (search needs, (search needs, looked-le _ _ _ _ (counted .count-balanced .ensures), search needs)))
+    let (start, counted) : tie.Start × tie.After-count-balanced = (search, search) in
+    let few : counted .count-balanced .result ≤ start .args .s .d = looked-le _ _ _ _ (counted .count-balanced .ensures) in
+    (search needs, (search needs, omega arith, search needs)))
     (λ c. search needs)
     (λ c. search needs)
     (λ c.

@@ -2,10 +2,8 @@
 -- Assumes nothing.
 use mathlib.Core.Path.{sym}
 use Prim.Native.Nat.{suc, _-_}
-use native.Mathlib.Numerals.{add-one}
 use native.Mathlib.Omega.{arith}
 use lib.ListN.{length, getD}
-use borrow.Author.Needs.{needs}
 use Rattle.lists.proofs.Tables.{Replaced, replaced-first, replaced-next, replaced-last}
 use Rattle.lists.proofs.Tabulate.{tab-getD}
 use Rattle.field.specs.Field.{product}

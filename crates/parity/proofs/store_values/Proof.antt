@@ -1,6 +1,5 @@
 -- `parity::store_values`: the values at 0 of the words below k are stored.
 -- Assumes nothing.
-use mathlib.Core.Path.{_≡_}
 use Prim.Native.Nat.{_-_}
 use native.Mathlib.Omega.{arith}
 use native.Mathlib.Nat.{zero-add}

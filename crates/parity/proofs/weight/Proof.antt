@@ -1,4 +1,4 @@
--- `parity::weight`: the table's rule, computed once over all 255 places.
+-- `parity::weight`: the array is the list of all weights, and each stands at its place in it.
 -- Assumes nothing.
 use Rattle.lists.specs.Tabulate.{tab, concat}
 use Rattle.field.specs.Field.{power, inverse, product}
@@ -6,7 +6,6 @@ use Rattle.members.specs.Members.{size}
 use Rattle.parity.specs.Parity.{factorial, sign, weight, weights}
 use Rattle.parity.proofs.Table.{square, place-inside, at-place}
 use native.Mathlib.Omega.{arith}
-use borrow.Author.Needs.{needs}
 use Rattle.parity.proofs.weight.Statement.{statement}
 use Rattle.parity.proofs.weight.Tie as tie
 

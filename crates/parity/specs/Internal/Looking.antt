@@ -25,7 +25,7 @@ zeroScale n = product 65520 (factorial (n - 1) % prime)
 unfoldable pub zeroWeight : ℕ → ℕ → ℕ
 zeroWeight n i = cond (ltb (suc i) n) (product (zeroScale n) (weight n (suc i))) 0
 
--- the value at 0 of the polynomial through the words of n members
+-- the value at 0 of the polynomial through the words of the first n − 1 members; of words that all n have on one of degree at most t, the value of that
 unfoldable pub constant : ℕ → (ℕ → ℕ) → ℕ
 constant n y = sumTo n (λ i. zeroWeight n i * y i) % prime
 
@@ -38,5 +38,5 @@ unfoldable pub looked : ℕ → ℕ → (ℕ → ℕ → ℕ) → ℕ
 looked t d y = leading d (λ k. balanced t (λ i. y i k))
 
 -- the values at 0 of k words stored in front of a buffer
-unfoldable pub opened : ℕ → ℕ → (ℕ → ℕ → ℕ) → List ℕ → List ℕ
-opened t k y secret = sets secret 0 (tab k (λ j. constant (size t) (λ i. y i j)))
+unfoldable pub withValues : ℕ → ℕ → (ℕ → ℕ → ℕ) → List ℕ → List ℕ
+withValues t k y secret = sets secret 0 (tab k (λ j. constant (size t) (λ i. y i j)))

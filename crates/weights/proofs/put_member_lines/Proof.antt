@@ -4,7 +4,7 @@ use Prim.Native.Nat.{_-_, _<_}
 use Rattle.members.specs.Members.{size}
 use Rattle.text.proofs.Pieces.{Pieces, pieces-first, pieces-room, pieces-next, pieces-last}
 use Rattle.text.proofs.Writing.{written-length}
-use Rattle.weights.specs.Table.{weightLine, memberLines}
+use Rattle.weights.specs.WeightTable.{weightLine, memberLines}
 use native.Mathlib.Omega.{arith}
 use borrow.Author.Needs.{needs}
 use Rattle.weights.proofs.put_member_lines.Statement.{statement}
