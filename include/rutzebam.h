@@ -107,7 +107,9 @@ extern "C" {
 /* Deals the secret to n members for a day, with random words that the caller draws afresh and keeps
    to itself. 1: t. 2: the secret's length. 32: the day. 3: how many random words. 4: how many words
    for shares. 5: a secret word above 65520. 6: a random word above 65520. On a refusal shares is
-   unchanged. */
+   unchanged. If the random words are drawn evenly from 0 to 65520, apart from one another and from the
+   secret, and serve this dealing alone, any t of the n shares tell nothing of the secret but its
+   length. t + 1 of them open it, with that quorum. */
 uint16_t rutzebam_deal(size_t t, uint16_t day,
                        const uint16_t *secret, size_t secret_len,
                        const uint16_t *random, size_t random_len,

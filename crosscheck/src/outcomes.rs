@@ -252,6 +252,7 @@ fn sizes() -> Vec<String> {
     for t in 1..=15 {
         for class in [
             "deal: t",
+            "deal: another secret, t",
             "open: opened, t",
             "open: 16, t",
             "open: another day, 15, t",
@@ -264,6 +265,7 @@ fn sizes() -> Vec<String> {
     }
     for d in 1..=64 {
         names.push(format!("deal: d = {d}"));
+        names.push(format!("deal: another secret, d = {d}"));
         names.push(format!("open: opened, d = {d}"));
         names.push(format!("write: d = {d}"));
     }

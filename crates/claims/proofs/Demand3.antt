@@ -7,15 +7,14 @@ use Prim.Native.Nat.{ℕ, suc, _/_, _≤_, _<_}
 use native.Mathlib.Nat.{le-trans, le-of-eq}
 use lib.Dec.{eqb}
 use lib.ListN.{length, getD}
-use borrow.Author.Tests.{eq-eqb, eqb-true, ltb-true}
-use Rattle.lists.specs.Tabulate.{all, count, each}
+use borrow.Author.Tests.{eq-eqb, eqb-true}
+use Rattle.lists.specs.Tabulate.{all, count}
 use Rattle.lists.proofs.Bools.{and-intro, and-left, and-right}
 use Rattle.lists.proofs.Checks.{within-intro}
 use Rattle.lists.proofs.Count.{count-mono, count-split}
-use Rattle.lists.proofs.Blocks.{each-every}
-use Rattle.lists.proofs.Every.{Every, every-at, every-map}
+use Rattle.lists.proofs.Every.{Every, every-at}
 use Rattle.lists.proofs.Tabulate.{tab-ext, tab-getD, all-intro, all-elim}
-use Rattle.field.specs.Field.{prime, isFieldWord}
+use Rattle.field.specs.Field.{prime}
 use Rattle.polynomial.specs.Polynomial.{value}
 use Rattle.polynomial.proofs.Roots.{Distinct}
 use Rattle.members.specs.Members.{size, ownPoints, has, card}
@@ -28,7 +27,7 @@ use Rattle.decoding.proofs.Points.{own-distinct}
 use Rattle.members.proofs.Points.{length-own}
 use Rattle.decoding.proofs.Unique.{need-most, agrees, card-agreeing}
 use Rattle.dealing.specs.Dealing.{Dealt, polynomial, dealtShares}
-use Rattle.dealing.proofs.Laws.{polynomial-degree, polynomial-zero, word-value, Acceptable, accepted-in-range, accepted-shares}
+use Rattle.dealing.proofs.Laws.{polynomial-degree, polynomial-zero, word-value, field-words, Acceptable, accepted-in-range, accepted-shares}
 use Rattle.voting.specs.Votes.{usable, voteRows, pairs}
 use Rattle.reconstruction.specs.Reconstruction.{Opened, required, atZero, finish, Answered, reconstruct}
 use Rattle.reconstruction.proofs.Opening.{finish-opens, reconstruct-finishes}
@@ -122,10 +121,6 @@ module _ (xs : List ℕ) (distinct : Distinct xs) (t day : ℕ) (long : length x
             let r = o .answers (polynomial t secret random) (dealt-fits xs t day secret random words (a .survivors) all-in few) in
             (r .0, r .1 ∙ dealt-zero t secret random secret-words);
       }
-
--- field words, from the test of each
-field-words : (words : List ℕ) → each isFieldWord words ≡ true → Every (λ a. a < prime) words
-field-words words h = every-map (λ a e. ltb-true a prime e) (each-every isFieldWord words h)
 
 pub dealt-anywhere : DealtAnywhere
 unfolding DealtAnywhere

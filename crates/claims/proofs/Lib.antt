@@ -9,4 +9,6 @@ pub mod Instances
 pub mod Opening
 pub mod Pairs
 pub mod QuickLook
+pub mod Recoded
 pub mod Rules
+pub mod Secrecy

@@ -8,6 +8,7 @@ use Rattle.claims.specs.Instances.{Instances}
 use Rattle.claims.specs.Pairs.{PairCounts}
 use Rattle.claims.specs.QuickLook.{TableRule, QuickLook, AllAgree, LookInstances}
 use Rattle.claims.specs.Rules.{Rules}
+use Rattle.claims.specs.Secrecy.{Secrecy, PerfectSecrecy, SecrecyAnywhere, SecrecyInstances}
 
 pub record Claims : Type 0 where
   pub demand2 : Demand2
@@ -34,6 +35,12 @@ pub record Claims : Type 0 where
   pub quick-look : QuickLook
   pub all-agree : AllAgree
   pub look-instances : LookInstances
+  -- what t members hold, they hold of any other secret of equal length with other random words; at any distinct points but 0; why exactly t members,
+  -- and why no point is 0
+  pub secrecy : Secrecy
+  pub perfect-secrecy : PerfectSecrecy
+  pub secrecy-anywhere : SecrecyAnywhere
+  pub secrecy-instances : SecrecyInstances
   -- what documents 01 and 02 say of their rules
   pub rules : Rules
   -- C1 to C14, and the corners

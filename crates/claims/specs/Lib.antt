@@ -8,3 +8,4 @@ pub mod Instances
 pub mod Pairs
 pub mod QuickLook
 pub mod Rules
+pub mod Secrecy

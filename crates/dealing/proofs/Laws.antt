@@ -5,13 +5,15 @@ use mathlib.Core.Bool.{true}
 use mathlib.Core.List.{List, [], _∷_}
 use Prim.Native.Nat.{ℕ, suc, _+_, _*_, _≤_, _<_}
 use native.Mathlib.Omega.{arith}
-use lib.ListN.{length, getD, drop, length-take}
+use lib.ListN.{length, getD, drop, length-take, length-drop}
+use lib.Seq.{length-take-le}
 use borrow.Author.Tests.{ltb-true, lt-ltb, eqb-true}
 use Rattle.lists.specs.Tabulate.{tab, each, concat}
-use Rattle.lists.proofs.Every.{Every, none, more, every-map}
+use Rattle.lists.proofs.Every.{Every, none, more, every-map, every-at}
 use Rattle.lists.proofs.Tabulate.{length-tab, getD-tab}
 use Rattle.lists.proofs.Blocks.{length-concat, getD-concat, every-tab, every-concat, every-getD, each-every, every-each}
 use Rattle.lists.proofs.Checks.{within-intro, within-low, within-high}
+use Rattle.lists.proofs.Choose.{every-sub, take-sub, drop-sub}
 use Rattle.field.specs.Field.{prime, isFieldWord}
 use Rattle.polynomial.specs.Polynomial.{eval, value}
 use Rattle.polynomial.proofs.Evaluation.{value-word}
@@ -19,12 +21,13 @@ use Rattle.mac.specs.Tag.{tag}
 use Rattle.mac.proofs.Tags.{tag-word}
 use Rattle.members.specs.Members.{size, ownPoints}
 use Rattle.shares.specs.Layout.{tagged, width, word, shareWord, shareWords, tagWord, keyα, keyβ}
-use Rattle.shares.proofs.Assembled.{assembled-length, assembled-every, share-word-is, share-words-are, tag-is, α-is, β-is}
+use Rattle.shares.proofs.Assembled.{assembled-length, assembled-every, word-is, share-word-is, share-words-are, tag-is, α-is, β-is}
 use Rattle.shares.proofs.Reading.{word-every}
 use Rattle.dealing.specs.Dealing.{randomLength, polynomial, dealtα, dealtβ, dealtWords, dealtTag, dealtShare, dealtShares, Dealt, deal}
+use Rattle.dealing.proofs.Places.{coefficients-inside}
 use Rattle.dealing.proofs.Refusals.{dealt, all-accept}
 
--- The polynomials: t + 1 coefficients, and the secret word at 0.
+-- The polynomials: at most t + 1 coefficients, and the secret word at 0; with enough random words, t + 1 coefficients, all field words.
 
 pub polynomial-degree : (t : ℕ) (secret random : List ℕ) (k : ℕ) → length (polynomial t secret random k) ≤ suc t
 unfolding polynomial
@@ -33,6 +36,18 @@ polynomial-degree t secret random k = omega (arith, length-take t (drop (t * k) 
 pub polynomial-zero : (t : ℕ) (secret random : List ℕ) (k : ℕ) → getD secret k 0 < prime → value (polynomial t secret random k) 0 ≡ getD secret k 0
 unfolding polynomial value eval
 polynomial-zero t secret random k h = omega (arith, h)
+
+pub polynomial-length : (t : ℕ) (secret random : List ℕ) → length random ≡ randomLength t (length secret)
+    → (k : ℕ) → k < length secret → length (polynomial t secret random k) ≡ suc t
+unfolding polynomial
+polynomial-length t secret random e k h =
+    ap suc (length-take-le t (drop (t * k) random) (simp length-drop (omega (arith, coefficients-inside t (length secret) k (length random) e h))))
+
+pub polynomial-words : (t : ℕ) {secret random : List ℕ} → Every (λ a. a < prime) secret → Every (λ a. a < prime) random
+    → (k : ℕ) → k < length secret → Every (λ a. a < prime) (polynomial t secret random k)
+unfolding polynomial
+polynomial-words t {random = random} small field k h =
+    more (every-at small k 0 h) (every-sub (take-sub t (drop (t * k) random)) (every-sub (drop-sub (t * k) random) field))
 
 -- Where each word stands.
 
@@ -67,6 +82,12 @@ module _ (xs : List ℕ) (t day : ℕ) (secret random : List ℕ) where
   pub length-shares : length (dealtShares xs t day secret random) ≡ size t * width t (length secret)
   unfolding dealtShares
   length-shares = length-concat (size t) (width t (length secret)) (dealtShare xs t day secret random) (λ i h. length-share i)
+
+  -- what stands at a place of a member's share
+  pub word-dealt : (i k : ℕ) → i < size t → k < width t (length secret)
+      → word t (length secret) (dealtShares xs t day secret random) i k ≡ getD (dealtShare xs t day secret random i) k 0
+  unfolding dealtShares dealtShare
+  word-dealt i k p q = word-is t (length secret) words tags keys length-words length-tags length-keys i p k q
 
   -- a share word is its polynomial's value at the member's point
   pub word-value : (i k : ℕ) → i < size t → k < length secret
@@ -138,10 +159,11 @@ pub record Acceptable (t day : ℕ) (secret random buffer : List ℕ) : Type 0 w
   pub secret-words : Every (λ a. a < prime) secret
   pub random-words : Every (λ a. a < prime) random
 
-field-words : (ws : List ℕ) → each isFieldWord ws ≡ true → Every (λ a. a < prime) ws
+-- field words, from the test of each, and back
+pub field-words : (ws : List ℕ) → each isFieldWord ws ≡ true → Every (λ a. a < prime) ws
 field-words ws h = every-map (λ a e. ltb-true a prime e) (each-every isFieldWord ws h)
 
-words-field : {ws : List ℕ} → Every (λ a. a < prime) ws → each isFieldWord ws ≡ true
+pub words-field : {ws : List ℕ} → Every (λ a. a < prime) ws → each isFieldWord ws ≡ true
 words-field h = every-each isFieldWord (every-map (λ a e. lt-ltb a prime e) h)
 
 module _ (t day : ℕ) (secret random buffer : List ℕ) where

@@ -3,3 +3,4 @@ pub mod Examples
 pub mod Laws
 pub mod Places
 pub mod Refusals
+pub mod SameKeys

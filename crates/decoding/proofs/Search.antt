@@ -19,7 +19,7 @@ use Rattle.field.specs.Field.{prime}
 use Rattle.field.proofs.Congruence.{_≈_, same-sym, same-trans, same-eq}
 use Rattle.polynomial.specs.Polynomial.{eval, interpolate}
 use Rattle.polynomial.proofs.Roots.{distinct-sub, Distinct, agree, agree-equal}
-use Rattle.polynomial.proofs.Interpolation.{Meets, meets-more, meets, length-interpolate, interpolate-words}
+use Rattle.polynomial.proofs.Interpolation.{meets, meets-every, length-interpolate, interpolate-words}
 use Rattle.members.specs.Members.{size, card, membersOf}
 use Rattle.members.proofs.Listed.{passing, passing-sub, passing-every, length-passing, passing-members}
 use Rattle.decoding.specs.Decoding.{need, agreeing, Fits, nth, through, find}
@@ -45,10 +45,6 @@ module _ (xs : List ℕ) (d : ℕ) (y : ℕ → ℕ → ℕ) (ms : List ℕ) whe
 pub length-interpolated : (xs : List ℕ) (y : ℕ → ℕ) (ms : List ℕ) → length (interpolate (pointsOf xs ms) (map y ms)) ≡ length ms
 length-interpolated xs y ms =
     length-interpolate (pointsOf xs ms) (map y ms) (length-map ms y ∙ sym (length-map ms (λ i. getD xs i 0))) ∙ length-map ms (λ i. getD xs i 0)
-
-meets-every : (g : List ℕ) (a b : ℕ → ℕ) (ms : List ℕ) → Meets g (map a ms) (map b ms) → Every (λ i. eval g (a i) ≈ b i) ms
-meets-every g a b [] m = every-none
-meets-every g a b (i ∷ ms) (meets-more h m) = more h (meets-every g a b ms m)
 
 -- the test of the search
 abbrev isFit : List ℕ → ℕ → ℕ → (ℕ → ℕ → ℕ) → ℕ → List (List ℕ) → Bool

@@ -4,10 +4,10 @@ use mathlib.Core.Path.{_≡_, refl, sym, ap, ap₂, _∙_}
 use mathlib.Core.Bool.{Bool, true}
 use mathlib.Core.List.{List, [], _∷_, _++_, append-assoc, append-nil}
 use Prim.Native.Nat.{ℕ, zero, suc, _+_, _*_, _≤_, _<_, zero-le, suc-le-suc}
-use native.Mathlib.Nat.{not-suc-le-zero, le-of-suc-le-suc, zero-mul, suc-mul, add-comm, add-assoc}
+use native.Mathlib.Nat.{not-suc-le-zero, le-of-suc-le-suc, zero-mul, mul-zero, suc-mul, add-comm, add-assoc}
 use native.Mathlib.Omega.{arith}
-use lib.ListN.{length, getD, length-append, List·getD-append}
-use lib.Seq.{getD-append-add}
+use lib.ListN.{length, getD, take, drop, length-append, List·getD-append, take-append-drop}
+use lib.Seq.{getD-append-add, take-at, drop-at, drop-drop}
 use Rattle.lists.specs.Tabulate.{tab, each, concat}
 use Rattle.lists.proofs.Bools.{and-intro, and-left, and-right}
 use Rattle.lists.proofs.Every.{Every, none, more}
@@ -61,6 +61,37 @@ module _ {A : Type 0} where
       ap (λ (m : ℕ). getD (f 0 ++ concat (tab n (λ i. f (suc i)))) m d) (ap (λ (m : ℕ). m + k) (suc-mul i w ∙ add-comm (i * w) w) ∙ add-assoc w (i * w) k)
       ∙ getD-after (f 0) (concat (tab n (λ i. f (suc i)))) w (i * w + k) d (h 0 (suc-le-suc zero-le))
       ∙ getD-concat n w (λ i. f (suc i)) (λ i k. h (suc i) (suc-le-suc k)) i k d (le-of-suc-le-suc p) q
+
+  -- list i of n lists of w elements, whatever follows them
+  pub block-at : (n w : ℕ) (f : ℕ → List A) (z : List A) → ((i : ℕ) → i < n → length (f i) ≡ w)
+      → (i : ℕ) → i < n → take w (drop (w * i) (concat (tab n f) ++ z)) ≡ f i
+  unfolding tab concat
+  block-at zero w f z h i p = absurd (not-suc-le-zero p)
+  block-at (suc n) w f z h zero p =
+      let rest : List A = concat (tab n (λ i. f (suc i))) in
+      ap₂ (λ (k : ℕ) (l : List A). take w (drop k l)) (mul-zero w) (append-assoc (f 0) rest z)
+      ∙ take-at (f 0) (rest ++ z) w (h 0 (suc-le-suc zero-le))
+  block-at (suc n) w f z h (suc i) p =
+      let rest : List A = concat (tab n (λ i. f (suc i))) in
+      let place : w * suc i ≡ w + w * i = omega arith in
+      ap₂ (λ (k : ℕ) (l : List A). take w (drop k l)) place (append-assoc (f 0) rest z)
+      ∙ ap (take w) (sym (drop-drop (w * i) w (f 0 ++ (rest ++ z))) ∙ ap (drop (w * i)) (drop-at (f 0) (rest ++ z) w (h 0 (suc-le-suc zero-le))))
+      ∙ block-at n w (λ i. f (suc i)) z (λ i k. h (suc i) (suc-le-suc k)) i (le-of-suc-le-suc p)
+
+  -- two lists with the same n blocks of w elements, and the same after these
+  pub blocks-same : (n w : ℕ) (a b : List A) → ((i : ℕ) → i < n → take w (drop (w * i) a) ≡ take w (drop (w * i) b))
+      → drop (w * n) a ≡ drop (w * n) b → a ≡ b
+  blocks-same zero w a b h e = sym (ap (λ (k : ℕ). drop k a) (mul-zero w)) ∙ e ∙ ap (λ (k : ℕ). drop k b) (mul-zero w)
+  blocks-same (suc n) w a b h e =
+      let after : (i : ℕ) (l : List A) → drop (w * i) (drop w l) ≡ drop (w * suc i) l =
+      λ i l. drop-drop (w * i) w l ∙ ap (λ (k : ℕ). drop k l) {x = w + w * i} {y = w * suc i} (omega arith) in
+      let front : take w a ≡ take w b =
+      sym (ap (λ (k : ℕ). take w (drop k a)) (mul-zero w)) ∙ h 0 (suc-le-suc zero-le) ∙ ap (λ (k : ℕ). take w (drop k b)) (mul-zero w) in
+      let rest : drop w a ≡ drop w b =
+      blocks-same n w (drop w a) (drop w b)
+      (λ i k. ap (take w) (after i a) ∙ h (suc i) (suc-le-suc k) ∙ sym (ap (take w) (after i b)))
+      (after n a ∙ e ∙ sym (after n b)) in
+      sym (take-append-drop w a) ∙ ap₂ (λ (x y : List A). x ++ y) front rest ∙ take-append-drop w b
 
 module _ {A : Type 0} {P : A → Type 0} where
   pub every-append : {xs ys : List A} → Every P xs → Every P ys → Every P (xs ++ ys)

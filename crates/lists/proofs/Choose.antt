@@ -4,10 +4,11 @@ use mathlib.Core.Path.{_≡_, refl, sym, ap, _∙_, subst}
 use mathlib.Core.Logic.{_⊎_, inl, inr}
 use mathlib.Core.Bool.{Bool, true, false, cond, not, false≢true}
 use mathlib.Core.Option.{Option, some, Option·some-injective, Option·none-ne-some}
-use mathlib.Core.List.{List, [], _∷_, _++_, map, List·Memᴰ, List·Memᴰ·head, List·Memᴰ·tail, List·Memᴰ·not-nil, List·Memᴰ·cases-cons, List·Memᴰ·append-cases, Memᴰ·cast, Memᴰ·append-left, Memᴰ·append-right, Memᴰ·map, Memᴰ·of-map, Sublistᴰ, Sublistᴰ·slnil, Sublistᴰ·cons, Sublistᴰ·cons-cons, Sublistᴰ·nil-sublist}
-use Prim.Native.Nat.{ℕ, zero, suc, _+_}
+use mathlib.Core.List.{List, [], _∷_, _++_, map, List·Memᴰ, List·Memᴰ·head, List·Memᴰ·tail, List·Memᴰ·not-nil, List·Memᴰ·cases-cons, List·Memᴰ·append-cases, Memᴰ·cast, Memᴰ·append-left, Memᴰ·append-right, Memᴰ·map, Memᴰ·of-map, Sublistᴰ, Sublistᴰ·slnil, Sublistᴰ·cons, Sublistᴰ·cons-cons, Sublistᴰ·nil-sublist, Sublistᴰ·refl}
+use Prim.Native.Nat.{ℕ, zero, suc, _+_, _<_}
+use native.Mathlib.Nat.{not-suc-le-zero, le-of-suc-le-suc}
 use native.Mathlib.Omega.{arith}
-use lib.ListN.{length, take}
+use lib.ListN.{length, take, drop}
 use Rattle.lists.specs.Tabulate.{tab, count, keep, first, choose}
 use Rattle.lists.proofs.Every.{Every, none as every-none, more}
 use Rattle.lists.proofs.Bools.{clash}
@@ -24,6 +25,11 @@ module _ {A : Type 0} where
   take-sub zero l = Sublistᴰ·nil-sublist l
   take-sub (suc n) [] = Sublistᴰ·slnil
   take-sub (suc n) (x ∷ l) = Sublistᴰ·cons-cons refl (take-sub n l)
+
+  pub drop-sub : (n : ℕ) (l : List A) → Sublistᴰ (drop n l) l
+  drop-sub zero l = Sublistᴰ·refl l
+  drop-sub (suc n) [] = Sublistᴰ·slnil
+  drop-sub (suc n) (x ∷ l) = Sublistᴰ·cons (drop-sub n l)
 
   -- ---- what passes a test
 
@@ -68,6 +74,21 @@ module _ {A : Type 0} where
       at : (b : Bool) → p x ≡ b → {k : List A} → Every (λ y. p y ≡ true) k → Every (λ y. p y ≡ true) (picked b x k)
       at true e s = more e s
       at false e s = s
+
+  -- what holds of all that pass holds of each
+  pub keep-at : {P : A → Type 0} (p : A → Bool) (n : ℕ) (f : ℕ → A) → Every P (keep p (tab n f)) → (i : ℕ) → i < n → p (f i) ≡ true → P (f i)
+  unfolding keep tab
+  keep-at p zero f e i h t = absurd (not-suc-le-zero h)
+  keep-at {P} p (suc n) f e zero h t = at (p (f 0)) t (keep p (tab n (λ j. f (suc j)))) e
+    where
+      at : (b : Bool) → b ≡ true → (k : List A) → Every P (picked b (f 0) k) → P (f 0)
+      at true q k (more x y) = x
+      at false q k x = absurd (false≢true q)
+  keep-at {P} p (suc n) f e (suc i) h t = keep-at p n (λ j. f (suc j)) (at (p (f 0)) (keep p (tab n (λ j. f (suc j)))) e) i (le-of-suc-le-suc h) t
+    where
+      at : (b : Bool) (k : List A) → Every P (picked b (f 0) k) → Every P k
+      at true k (more x y) = y
+      at false k x = x
 
   pub length-keep-tab : (p : A → Bool) (n : ℕ) (f : ℕ → A) → length (keep p (tab n f)) ≡ count n (λ i. p (f i))
   unfolding keep tab count

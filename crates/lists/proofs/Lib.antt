@@ -7,6 +7,7 @@ pub mod Common
 pub mod Count
 pub mod Every
 pub mod Grids
+pub mod Grown
 pub mod InPlace
 pub mod StoredBlocks
 pub mod Stores

@@ -9,7 +9,7 @@ use lib.ListN.{length}
 use Rattle.lists.specs.Tabulate.{tab, count, keep}
 use Rattle.lists.proofs.Blocks.{tab-more, every-tab}
 use Rattle.lists.proofs.Every.{Every}
-use Rattle.lists.proofs.Choose.{keep-sub, keep-mono, keep-every, keep-append, length-keep-tab, every-sub}
+use Rattle.lists.proofs.Choose.{keep-sub, keep-mono, keep-every, keep-at, keep-append, length-keep-tab, every-sub}
 use Rattle.members.specs.Members.{has, membersOf}
 
 -- those of n members that pass a test, in order
@@ -27,6 +27,11 @@ module _ (n : ℕ) (p : ℕ → Bool) where
 
   pub passing-below : Every (λ i. i < n) (passing n p)
   passing-below = every-sub passing-sub (every-tab n (λ i. i) (λ i h. h))
+
+  -- what holds of all of them holds of each
+  pub passing-at : {P : ℕ → Type 0} → Every P (passing n p) → (i : ℕ) → i < n → p i ≡ true → P i
+  unfolding passing
+  passing-at e i h t = keep-at p n (λ i. i) e i h t
 
   pub length-passing : length (passing n p) ≡ count n p
   unfolding passing

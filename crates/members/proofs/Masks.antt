@@ -13,6 +13,7 @@ use lib.Count.{ones, ones-step, under, trailingZeros}
 use Rattle.lists.specs.Tabulate.{count}
 use Rattle.lists.proofs.Bools.{clash, same-test}
 use Rattle.lists.proofs.Count.{toℕ, count-le, count-mono, count-ext, count-back, count-more, count-some}
+use Rattle.lists.proofs.Grown.{Grown, count-grown}
 use Rattle.members.specs.Members.{bit, has, setOf, card}
 
 -- ---- digits, lowest first
@@ -119,6 +120,13 @@ card-none n m h l = sym (card-same n 0 m (pow-pos n) h (λ i k y. absurd (clash 
 pub card-some : (n m : ℕ) → 0 < card n m → (i : ℕ) × (i < n) × (has m i ≡ true)
 unfolding card
 card-some n m h = count-some n (has m) h
+
+-- a set of at most m members grows to one of m
+pub grown-set : (n m set : ℕ) → card n set ≤ m → m ≤ n → (s : ℕ) × ((i : ℕ) → i < n → has set i ≡ true → has s i ≡ true) × (card n s ≡ m)
+unfolding card
+grown-set n m set few room =
+    let g : Grown n m (has set) = count-grown n m (has set) few room in
+    (setOf n (g .grown), λ i h e. has-setOf n (g .grown) i h ∙ g .wider i h e, card-setOf n (g .grown) ∙ g .many)
 
 -- the places beyond the n change nothing
 pub card-more : (n k m : ℕ) → m < 2 ^ n → n ≤ k → card k m ≡ card n m

@@ -23,6 +23,9 @@ value-word cs x = mod-word (eval cs x)
 pub value-eq : (f g : List ℕ) (x y : ℕ) → eval f x ≈ eval g y → value f x ≡ value g y
 value-eq f g x y h = eq-same (value-word f x) (value-word g y) (same-trans (value-same f x) (same-trans h (same-sym (value-same g y))))
 
+pub eval-eq : (f g : List ℕ) (x y : ℕ) → value f x ≡ value g y → eval f x ≈ eval g y
+eval-eq f g x y h = same-trans (same-sym (value-same f x)) (same-trans (same-eq h) (value-same g y))
+
 -- the point may be taken modulo p
 pub eval-point : (cs : List ℕ) {x y : ℕ} → x ≈ y → eval cs x ≈ eval cs y
 unfolding eval

@@ -1,14 +1,14 @@
--- Interpolation at distinct points meets every point, with as many coefficients as points, all field words.
+-- Interpolation at distinct points meets every point, with as many coefficients as points, all field words. The coefficient at power 0 is the value at 0.
 -- Assumes nothing.
 use mathlib.Core.Path.{_≡_, refl, sym, ap, _∙_}
-use mathlib.Core.List.{List, [], _∷_}
+use mathlib.Core.List.{List, [], _∷_, map}
 use Prim.Native.Nat.{ℕ, suc, _+_, _*_, _<_}
-use native.Mathlib.Nat.{suc-ne-zero, suc-inj}
+use native.Mathlib.Nat.{suc-ne-zero, suc-inj, not-suc-le-zero}
 use native.Mathlib.Omega.{arith}
-use lib.ListN.{length}
+use lib.ListN.{length, drop}
 use Rattle.lists.proofs.Every.{Every, none, more}
 use Rattle.field.specs.Field.{prime, difference, product, inverse}
-use Rattle.field.proofs.Congruence.{_≈_, same-refl, same-sym, same-trans, same-eq, mult, times, _⊕_, _⊗_, lc}
+use Rattle.field.proofs.Congruence.{_≈_, same-refl, same-sym, same-trans, same-eq, eq-same, mult, times, _⊕_, _⊗_, lc}
 use Rattle.field.proofs.Fermat.{inverse-law}
 use Rattle.field.proofs.Operations.{difference-same, product-same}
 use Rattle.polynomial.specs.Polynomial.{eval, linear, slopes, interpolate}
@@ -70,3 +70,17 @@ meets (x ∷ xs) (y ∷ ys) h (distinct-more n d) =
     meets-more {y = y} (same-trans (eval-linear x y (interpolate xs (slopes x y xs ys)) x) (mult 0 (x * eval (interpolate xs (slopes x y xs ys)) x) (omega arith)))
     (meets-others x y (interpolate xs (slopes x y xs ys)) xs ys (suc-inj h) n
     (meets xs (slopes x y xs ys) (length-slopes x y xs ys (suc-inj h)) d))
+
+-- values at the points a i for each i of a list
+pub meets-every : (g : List ℕ) (a b : ℕ → ℕ) (is : List ℕ) → Meets g (map a is) (map b is) → Every (λ i. eval g (a i) ≈ b i) is
+meets-every g a b [] m = none
+meets-every g a b (i ∷ is) (meets-more h m) = more h (meets-every g a b is m)
+
+-- a polynomial whose value at 0 is c begins with c
+pub starts-with : (c : ℕ) (f : List ℕ) → c < prime → 0 < length f → Every (λ a. a < prime) f → eval f 0 ≈ c → f ≡ c ∷ drop 1 f
+unfolding eval
+starts-with c [] h l w e = absurd (not-suc-le-zero l)
+starts-with c (a ∷ f) h l (more w ws) e = ap (λ (x : ℕ). x ∷ f) (eq-same w h (same-trans (same-eq (sym (at-zero a (eval f 0)))) e))
+  where
+    at-zero : (a b : ℕ) → a + 0 * b ≡ a
+    at-zero a b = omega arith

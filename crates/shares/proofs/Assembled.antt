@@ -70,14 +70,14 @@ module _ (t d : ℕ) (words tags keys : ℕ → List ℕ) (w : (i : ℕ) → len
   all = concat (tab (size t) (λ i. assembled (words i) (tags i) (keys i)))
 
   module _ (i : ℕ) (h : i < size t) where
-    at-place : (p : ℕ) → p < width t d → word t d all i p ≡ getD (assembled (words i) (tags i) (keys i)) p 0
+    pub word-is : (p : ℕ) → p < width t d → word t d all i p ≡ getD (assembled (words i) (tags i) (keys i)) p 0
     unfolding word share
-    at-place p q =
+    word-is p q =
         getD-concat (size t) (width t d) share (λ i h. assembled-length t d (words i) (tags i) (keys i) (w i) (g i) (k i)) i p 0 h q
 
     pub share-word-is : (k : ℕ) → k < d → shareWord t d all i k ≡ getD (words i) k 0
     unfolding width
-    share-word-is k q = at-place (wordPlace k) (omega arith) ∙ assembled-word t d (words i) (tags i) (keys i) (w i) (g i) k q
+    share-word-is k q = word-is (wordPlace k) (omega arith) ∙ assembled-word t d (words i) (tags i) (keys i) (w i) (g i) k q
 
     pub share-words-are : shareWords t d all i ≡ words i
     unfolding shareWords
@@ -88,12 +88,12 @@ module _ (t d : ℕ) (words tags keys : ℕ → List ℕ) (w : (i : ℕ) → len
 
     pub tag-is : (j : ℕ) → j < size t → tagWord t d all i j ≡ getD (tags i) j 0
     unfolding width tagWord
-    tag-is j q = at-place (tagPlace d j) (omega arith) ∙ assembled-tag t d (words i) (tags i) (keys i) (w i) (g i) j q
+    tag-is j q = word-is (tagPlace d j) (omega arith) ∙ assembled-tag t d (words i) (tags i) (keys i) (w i) (g i) j q
 
     pub α-is : (j : ℕ) → j < size t → keyα t d all i j ≡ getD (keys i) (2 * j) 0
     unfolding width keyα
-    α-is j q = at-place (keyPlace t d j) (omega arith) ∙ assembled-key t d (words i) (tags i) (keys i) (w i) (g i) (2 * j) (keyPlace t d j) (omega arith)
+    α-is j q = word-is (keyPlace t d j) (omega arith) ∙ assembled-key t d (words i) (tags i) (keys i) (w i) (g i) (2 * j) (keyPlace t d j) (omega arith)
 
     pub β-is : (j : ℕ) → j < size t → keyβ t d all i j ≡ getD (keys i) (2 * j + 1) 0
     unfolding width keyβ
-    β-is j q = at-place (keyPlace t d j + 1) (omega arith) ∙ assembled-key t d (words i) (tags i) (keys i) (w i) (g i) (2 * j + 1) (keyPlace t d j + 1) (omega arith)
+    β-is j q = word-is (keyPlace t d j + 1) (omega arith) ∙ assembled-key t d (words i) (tags i) (keys i) (w i) (g i) (2 * j + 1) (keyPlace t d j + 1) (omega arith)

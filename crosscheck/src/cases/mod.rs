@@ -10,6 +10,7 @@ pub mod page;
 pub mod program;
 pub mod pruning;
 pub mod reading;
+pub mod secrecy;
 pub mod station;
 pub mod tags;
 pub mod writing;
@@ -52,6 +53,7 @@ const GENERATORS: &[Generator] = &[
     program::all,
     days::all,
     look::all,
+    secrecy::all,
 ];
 
 /// Runs all generators for one seed.

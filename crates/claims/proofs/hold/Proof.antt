@@ -10,6 +10,7 @@ use Rattle.claims.proofs.Opening.{opening}
 use Rattle.claims.proofs.Pairs.{pair-counts}
 use Rattle.claims.proofs.QuickLook.{table-rule, quick-look, all-agree, look-instances}
 use Rattle.claims.proofs.Rules.{rules}
+use Rattle.claims.proofs.Secrecy.{secrecy, perfect-secrecy, secrecy-anywhere, secrecy-instances}
 use Rattle.claims.proofs.hold.Statement.{statement}
 use Rattle.claims.proofs.hold.Tie as tie
 
@@ -36,6 +37,10 @@ hold-spec =
       quick-look = quick-look;
       all-agree = all-agree;
       look-instances = look-instances;
+      secrecy = secrecy;
+      perfect-secrecy = perfect-secrecy;
+      secrecy-anywhere = secrecy-anywhere;
+      secrecy-instances = secrecy-instances;
       rules = rules;
       examples = examples;
       corners = corners;
