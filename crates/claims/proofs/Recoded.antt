@@ -1,5 +1,6 @@
--- Random words for another secret that leave the shares of t members, and the key words, as they are: there are some, and there are no others, since a
--- polynomial of degree at most t is fixed by its value at 0 and its values at t other points. For any distinct points, none of which is 0.
+-- Random words for another secret of equal length that leave the shares of t members, and the key words, as they are: there are some, and there are no
+-- others, since a polynomial of degree at most t is fixed by its value at 0 and its values at t other points. For any points that are distinct and not 0, both
+-- modulo p.
 -- Assumes nothing.
 use mathlib.Core.Path.{_≡_, sym, ap, ap₂, _∙_, subst}
 use mathlib.Core.Bool.{true}

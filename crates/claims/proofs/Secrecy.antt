@@ -1,4 +1,4 @@
--- What t members know: exactly one list of random words for each secret, with the same key words, gives them what they hold; so as many lists in all.
+-- What t members know: for each secret of equal length exactly one list of random words, with the same key words, gives them what they hold; so as many in all.
 -- Assumes nothing.
 use mathlib.Core.Path.{_≡_, refl, sym, ap, _∙_, subst}
 use mathlib.Core.Bool.{true}

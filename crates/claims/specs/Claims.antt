@@ -35,8 +35,8 @@ pub record Claims : Type 0 where
   pub quick-look : QuickLook
   pub all-agree : AllAgree
   pub look-instances : LookInstances
-  -- what t members hold, they hold of any other secret of equal length with other random words; at any distinct points but 0; why exactly t members,
-  -- and why no point is 0
+  -- what t members hold, they hold of any other secret of equal length with other random words; at any points distinct and not 0 modulo p; why exactly t
+  -- members, and why no point is 0
   pub secrecy : Secrecy
   pub perfect-secrecy : PerfectSecrecy
   pub secrecy-anywhere : SecrecyAnywhere

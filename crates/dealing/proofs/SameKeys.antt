@@ -1,5 +1,5 @@
--- Two dealings for one day with the same key words: a member with the same share words has the same share, and with the same polynomials all random
--- words are the same.
+-- Two dealings of equal length, at the same points, for one day and with the same key words: a member with the same share words has the same share, and with
+-- the same polynomials all random words are the same.
 -- Assumes nothing.
 use mathlib.Core.Path.{_≡_, sym, ap, _∙_}
 use mathlib.Core.List.{List, [], _∷_}

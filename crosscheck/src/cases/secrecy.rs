@@ -1,5 +1,6 @@
 //! What t members hold of one secret they can hold of any other of its length: the coefficients for
-//! it are found by elimination. If one of the t is to hold something else, they are others.
+//! it are found by elimination. If one of the t is to hold something else, the coefficients are
+//! others.
 
 use super::Round;
 use super::station::{Keys, Station};
@@ -41,7 +42,7 @@ fn another_secret(round: &mut Round, station: &Station) {
         )
     };
     let right = (1..=layout.n).all(|i| set.contains(&i) || moved(i) == off);
-    let what = "another member's words differ elsewhere than the secrets";
+    let what = "another member's words do not differ just where the secrets do";
     round.ledger.demand(right, kind, &call, what, &dealt);
 
     let kind = "another secret, the same t - 1 shares";
