@@ -33,7 +33,7 @@ use Rattle.claims.specs.Secrecy.{keyWords}
 abbrev pub Words : List ℕ → Type 0
 Words l = Every (λ w. w < prime) l
 
--- t members, at points that are distinct and not 0
+-- t members, at points that are distinct and not 0 modulo p
 pub record Holders (xs : List ℕ) (t members : ℕ) : Type 0 where
   pub long : length xs ≡ size t
   pub distinct : Distinct xs

@@ -8,12 +8,11 @@ use native.Mathlib.Omega.{arith}
 use lib.Dec.{lit<, lit≤}
 use lib.ListN.{length, getD}
 use Rattle.lists.specs.Tabulate.{tab, all, count, each, concat}
-use Rattle.lists.proofs.Bools.{and-intro, clash}
 use Rattle.field.specs.Field.{isFieldWord}
 use Rattle.polynomial.specs.Polynomial.{eval, value}
 use Rattle.mac.specs.Tag.{tag}
 use Rattle.members.specs.Members.{size, ownPoints, bit, has, setOf, card}
-use Rattle.members.proofs.Masks.{grown-set, has-zero}
+use Rattle.members.proofs.Masks.{grown-set}
 use Rattle.members.proofs.Points.{length-own, own-point}
 use Rattle.members.proofs.Words.{size-31}
 use Rattle.shares.specs.Layout.{width, assembled, word}
@@ -147,12 +146,12 @@ unfolding Secrecy
 secrecy t day members secret other random dealt dealing as-long words many =
     let r = in-range t day secret random dealt dealing in
     let is : dealt ≡ dealtShares (ownPoints t) t day secret random = dealt-is t day secret random dealt dealing in
-    let one = exactly-one (own-holders t members (r .threshold-high) many) day (beside r as-long words) in
+    let one = exactly-one (own-holders t members (r .threshold-high) many) day (beside r {other = other} as-long words) in
     record {
       list = one .list;
       meets = (
-        one .meets .0,
-        at-gives r as-long words (subst (λ (held : List ℕ). GivesAt (ownPoints t) t day members held other (one .list)) (sym is) (one .meets .1)),
+        search (one .meets .0),
+        at-gives r {other = other} as-long words (subst (λ (held : List ℕ). GivesAt (ownPoints t) t day members held other (one .list)) (sym is) (one .meets .1)),
       );
       only = λ l p. one .only l (p .0, subst (λ (held : List ℕ). GivesAt (ownPoints t) t day members held other l) is (gives-at (p .1)));
     }
@@ -197,25 +196,14 @@ unfolding tab each concat eval value tag size ownPoints width assembled randomLe
     sample
 c5 = dealt-over 1 1 (250 ∷ []) random5 (sample 259) refl
 
--- to nobody every coefficient gives what nobody holds
-given-to-nobody : (c : ℕ) → isFieldWord c ≡ true → Gives 1 1 0 (sample 259) (7 ∷ []) (random7 c)
-unfolding each randomLength size
-given-to-nobody c h =
-    at-gives (in-range 1 1 (250 ∷ []) random5 (sample 259) c5) {other = 7 ∷ []} refl refl
-    (record { long = refl; words = and-intro h refl; as-held = λ i l e. absurd (clash e (has-zero i)) })
-
--- what members 1 and 2 hold opens to the secret that was dealt, by demand 2
-handed : HandedIn 1 1 3 2 (sample 259)
-unfolding tab all count each size bit has setOf card width word fieldShare usable isQuorum required sample
-handed = search (lit<, lit≤)
-
-more-know : (random : List ℕ) → Gives 1 1 3 (sample 259) (7 ∷ []) random → ⊥
+-- what members hold that meet the quorum 2 opens to the secret that was dealt, by demand 2
+open-it : (members : ℕ) → HandedIn 1 1 members 2 (sample 259) → (random : List ℕ) → Gives 1 1 members (sample 259) (7 ∷ []) random → ⊥
 unfolding Demand2
-more-know random g =
+open-it members handed random g =
     let e : _≡_ {A = List ℕ} (250 ∷ []) (7 ∷ []) =
     ap (λ (a : Answered). a .opened .secret)
-    (sym (demand2 1 1 3 2 (250 ∷ []) random5 (sample 259) (sample 259) c5 handed (λ i h p. record { is-present = p; same = λ k l. refl }))
-    ∙ demand2 1 1 3 2 (7 ∷ []) random (g .dealt) (sample 259) (g .dealing) handed (g .as-held)) in
+    (sym (demand2 1 1 members 2 (250 ∷ []) random5 (sample 259) (sample 259) c5 handed (λ i h p. record { is-present = p; same = λ k l. refl }))
+    ∙ demand2 1 1 members 2 (7 ∷ []) random (g .dealt) (sample 259) (g .dealing) handed (g .as-held)) in
     omega (arith, ap (λ (l : List ℕ). getD l 0 0) e)
 
 -- at the point 0 stands the secret word
@@ -223,27 +211,28 @@ point-0 : word 1 1 (dealtShares (0 ∷ 1 ∷ 2 ∷ []) 1 1 (250 ∷ []) random5)
 unfolding tab concat eval value tag size width word assembled polynomial dealtα dealtβ dealtWords dealtTag dealtShare dealtShares
 point-0 = refl
 
-point-0-knows : (random : List ℕ) → GivesAt (0 ∷ 1 ∷ 2 ∷ []) 1 1 1 (dealtShares (0 ∷ 1 ∷ 2 ∷ []) 1 1 (250 ∷ []) random5) (7 ∷ []) random → ⊥
-unfolding size width has bit
-point-0-knows random g =
+see-it : (members : ℕ) → has members 0 ≡ true → (random : List ℕ)
+    → GivesAt (0 ∷ 1 ∷ 2 ∷ []) 1 1 members (dealtShares (0 ∷ 1 ∷ 2 ∷ []) 1 1 (250 ∷ []) random5) (7 ∷ []) random → ⊥
+unfolding size width
+see-it members first random g =
     let e : _≡_ {A = ℕ} 250 7 =
     sym point-0
-    ∙ g .as-held 0 (omega arith) refl .same 0 (omega arith)
+    ∙ g .as-held 0 (omega arith) first .same 0 (omega arith)
     ∙ word-value (0 ∷ 1 ∷ 2 ∷ []) 1 1 (7 ∷ []) random 0 0 (omega arith) (omega arith)
     ∙ polynomial-zero 1 (7 ∷ []) random 0 (omega arith) in
     omega arith
 
 pub secrecy-instances : SecrecyInstances
-unfolding tab all count each concat eval value tag size ownPoints bit has card width word assembled sample randomLength polynomial dealtα dealtβ dealtWords
-    dealtTag dealtShare dealtShares deal
+unfolding tab all count each concat eval value tag size ownPoints bit has setOf card width word assembled sample fieldShare usable isQuorum required
+    randomLength polynomial dealtα dealtβ dealtWords dealtTag dealtShare dealtShares deal
 secrecy-instances =
     record {
       c5 = c5;
       one-member = refl;
       seven = search (dealt-over);
       same-share = (refl, record { dealt = shares7; dealing = search (dealt-over); as-held = search (as-tested) });
-      fewer-3 = (refl, given-to-nobody 3 refl);
-      fewer-4 = (refl, given-to-nobody 4 refl);
-      more-know = more-know;
-      point-0-knows = point-0-knows;
+      fewer-3 = (refl, record { dealt = dealtShares (ownPoints 1) 1 1 (7 ∷ []) (random7 3); dealing = search (dealt-over); as-held = search (as-tested) });
+      fewer-4 = (refl, record { dealt = dealtShares (ownPoints 1) 1 1 (7 ∷ []) (random7 4); dealing = search (dealt-over); as-held = search (as-tested) });
+      more-know = open-it _ (search (lit<, lit≤));
+      point-0-knows = see-it _ refl;
     }
