@@ -1,4 +1,6 @@
 // Dealing: secret and random words to the members' shares for a day.
+#![tactic(auto)]
+
 ghost use Rattle.std.specs.Prelude.{◌≡◌, suc, ◌<◌, ◌∷◌, length, get_or};
 ghost use Rattle.lists.specs.Tabulate.{tab};
 ghost use Rattle.polynomial.specs.Polynomial.{value};
@@ -12,7 +14,7 @@ ghost use Rattle.dealing.specs.Answer.{answer_of};
 use shares::Shape;
 
 // Dealt, or refused with the documents' number.
-#[derive(Drop)]
+#[derive(Clone, Copy)]
 pub enum Outcome {
     Dealt,
     Refused(u16),

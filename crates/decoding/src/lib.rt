@@ -3,6 +3,8 @@
 // First a guess: the polynomial through the first t + 1 members of a hint, if enough members agree with it. Else the crate `locator` gives an E that is 0
 // at every member with a wrong value, if some polynomial meets enough members; that one goes through the first t + 1 members at which E is not 0. Whether
 // enough members meet it is then counted. Member i has the point at place i of the points.
+#![tactic(auto)]
+
 ghost use Rattle.std.specs.Prelude.{◌≡◌, cond, ◌&&◌, ◌||◌, not, suc, ◌+◌, ◌≤◌, ◌<◌, ◌^◌, eqb, length, get_or, replicate};
 ghost use Rattle.lists.specs.Checks.{refusal};
 ghost use Rattle.lists.specs.Tabulate.{all};
@@ -17,7 +19,7 @@ ghost use Rattle.decoding.specs.Answer.{answer_of};
 ghost use Rattle.decoding.specs.Decoding.{need, agreeing, find, undecoded, decoded_from, decode};
 
 // What decoding answers: the coefficients are in the buffer, or the number of the refusal.
-#[derive(Drop)]
+#[derive(Clone, Copy)]
 pub enum Outcome {
     Found,
     Refused(u16),

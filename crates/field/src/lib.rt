@@ -1,4 +1,6 @@
 // Arithmetic modulo the prime 65521, for any words: a word above 65520 is taken modulo the prime.
+#![tactic(auto)]
+
 ghost use Rattle.std.specs.Prelude.{◌≡◌, ◌+◌, ◌*◌, ◌^◌, ◌%◌, ◌≤◌, ◌<◌, length};
 ghost use Rattle.lists.specs.Tabulate.{each};
 ghost use Rattle.field.specs.Field.{prime, is_field_word, sum, difference, product, inverse as inverse_of};

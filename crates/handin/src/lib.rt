@@ -1,4 +1,6 @@
 // The reader of hand-in text, its lines one after the other into a buffer of shares; and its writer.
+#![tactic(auto)]
+
 ghost use Rattle.std.specs.Prelude.{◌≡◌, cond, List, [], ◌+◌, ◌≤◌, ◌<◌, length, replicate};
 ghost use Rattle.std.proofs.Math.Option.{some};
 ghost use Rattle.std.proofs.lemmas.List.Edits.{sets};
@@ -29,7 +31,7 @@ fn store(share: &[u16], words: &mut [u16], at: usize)
 }
 
 // What a P line comes to: the present mask with its member, or a refusal's number.
-#[derive(Drop)]
+#[derive(Clone, Copy)]
 enum Line {
     Accepted(u32),
     Refused(u16),
@@ -67,7 +69,7 @@ fn take_line(line: &[u8], s: Shape, present: u32, scratch: &mut [u16], words: &m
 }
 
 // What was read, or a refusal's number.
-#[derive(Drop)]
+#[derive(Clone, Copy)]
 pub enum Outcome {
     Accepted {
         t: usize,
@@ -286,7 +288,7 @@ fn text_length(s: Shape, quorum: u16, day: u16, present: u32, shares: &[u16]) ->
 }
 
 // How many bytes were written, or a refusal's number.
-#[derive(Drop)]
+#[derive(Clone, Copy)]
 pub enum Wrote {
     Bytes(usize),
     Refused(u16),

@@ -1,5 +1,7 @@
 // Lagrange's matrix: from the values of some members, by sums of products, the values at 0 and at all members of the polynomial through them. It is made once for
 // the members that are chosen, and serves every word.
+#![tactic(auto)]
+
 ghost use Rattle.std.specs.Prelude.{◌≡◌, cond, ◌%◌, ◌≤◌, ◌<◌, ◌^◌, eqb, length};
 ghost use Rattle.lists.specs.Tabulate.{tab};
 ghost use Rattle.field.specs.Field.{prime, difference, product, inverse};

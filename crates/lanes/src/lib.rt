@@ -1,11 +1,13 @@
 // One list of words, as a polynomial's coefficients, at 32 points at once: a lane for each point, eight coefficients at a time.
+#![tactic(auto)]
+
 ghost use Rattle.std.specs.Prelude.{◌≡◌, ◌+◌, ◌*◌, ◌/◌, ◌<◌, ◌≤◌, length, get_or, drop};
 ghost use Rattle.lists.specs.Tabulate.{tab};
 ghost use Rattle.polynomial.specs.Polynomial.{value};
 ghost use Rattle.lanes.specs.Internal.Lanes.{Copied, PowerRows, values_from};
 
 // A sum of products of two words: the low halves of the products added up, and the high halves.
-#[derive(Drop)]
+#[derive(Clone, Copy)]
 pub struct Halves {
     pub low: u32,
     pub high: u32,

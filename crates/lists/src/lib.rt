@@ -1,4 +1,6 @@
 // Tests and stores that several operations make.
+#![tactic(auto)]
+
 ghost use Rattle.std.specs.Prelude.{◌≡◌, length, replicate};
 ghost use Rattle.lists.specs.Checks.{within as within_of};
 

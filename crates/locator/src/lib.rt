@@ -2,12 +2,14 @@
 //
 // A pair (N, E) is a buffer of 64 words: N in the first 32, E in the last 32. Both pairs are kept so that N(x) = y · E(x) at each member passed. A member
 // at which a pair is off raises one pair by a factor X − x and frees the other.
+#![tactic(auto)]
+
 ghost use Rattle.std.specs.Prelude.{◌≡◌, cond, ◌≤◌, length, take, drop, replicate};
 ghost use Rattle.members.specs.Members.{size};
 ghost use Rattle.locator.specs.Internal.Pairs.{raised, mixed, off_by, Advanced, first_turn, stepped, state_of, Located};
 
 // The degree of the first pair's N, and that of the second pair's E.
-#[derive(Drop)]
+#[derive(Clone, Copy)]
 struct Degrees {
     first: usize,
     second: usize,

@@ -1,4 +1,6 @@
 // The tag of a list of words under a key, whole or as its first word and the rest; and the latter under 32 keys at once.
+#![tactic(auto)]
+
 ghost use Rattle.std.specs.Prelude.{◌≡◌, ◌∷◌, length, get_or};
 ghost use Rattle.lists.specs.Tabulate.{tab};
 ghost use Rattle.mac.specs.Tag.{tag as tag_of};

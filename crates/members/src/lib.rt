@@ -1,4 +1,6 @@
 // Sets of members as masks of 32 bits: member i, counted from 0, has bit i.
+#![tactic(auto)]
+
 ghost use Rattle.std.specs.Prelude.{◌≡◌, suc, ◌<◌, ◌≤◌, ◌^◌, length};
 ghost use Rattle.lists.specs.Tabulate.{tab};
 ghost use Rattle.members.specs.Members.{is_threshold, size, has, card, adding, striking, first_of, common};

@@ -1,11 +1,13 @@
 // The program `opening`: hand-in text from standard input is opened, and the answer goes to standard output.
+#![tactic(auto)]
+
 ghost use Rattle.std.specs.Prelude.{◌≡◌, length};
 ghost use Rattle.opening.specs.Input.{Inside, step_of};
 
 use libc::{STDIN_FILENO, STDOUT_FILENO};
 
 // What one read comes to: it failed, the input has ended, or it put bytes at the start of its buffer.
-#[derive(Drop)]
+#[derive(Clone, Copy)]
 enum Step {
     Failed,
     End,
@@ -26,7 +28,7 @@ fn judge(got: isize, buffer: &[u8]) -> Step
 }
 
 // How many bytes were read until the input ended or the buffer was full, or that a read failed.
-#[derive(Drop)]
+#[derive(Clone, Copy)]
 enum Input {
     Bytes(usize),
     Failed,

@@ -1,4 +1,6 @@
 // The parity weights, and the quick look: words of all n members that lie on a polynomial of degree at most t are known by sums of products.
+#![tactic(auto)]
+
 ghost use Rattle.std.specs.Prelude.{◌≡◌, cond, suc, ◌+◌, ◌*◌, ◌/◌, ◌%◌, ◌≤◌, ◌<◌, eqb, ltb, length, get_or};
 ghost use Rattle.std.proofs.lemmas.List.Edits.{sets};
 ghost use Rattle.lists.specs.Tabulate.{tab};

@@ -1,4 +1,6 @@
 // Polynomials over the field, as words for the coefficients, power 0 first: evaluation and interpolation.
+#![tactic(auto)]
+
 ghost use Rattle.std.specs.Prelude.{◌≡◌, suc, ◌+◌, ◌*◌, ◌≤◌, ◌<◌, length, get_or};
 ghost use Rattle.field.specs.Internal.Dot.{dot};
 ghost use Rattle.polynomial.specs.Polynomial.{value, interpolated};

@@ -1,4 +1,6 @@
 // Vote rows to survivors. Row i is the set of those who accept member i.
+#![tactic(auto)]
+
 ghost use Rattle.std.specs.Prelude.{◌≡◌, true, cond, ◌-◌, ◌≤◌, ◌<◌, ◌^◌, length};
 ghost use Rattle.lists.specs.Tabulate.{each};
 ghost use Rattle.members.specs.Members.{size, has, is_set, first_of};
@@ -8,7 +10,7 @@ ghost use Rattle.pruning.specs.Answer.{answer_of};
 ghost use Rattle.pruning.specs.Internal.Steps.{FirstShort};
 
 // The survivors, or the number of the refusal.
-#[derive(Drop)]
+#[derive(Clone, Copy)]
 pub enum Survivors {
     Left(u32),
     Refused(u16),

@@ -1,4 +1,6 @@
 // Reconstruction (document 01: opening): shares to the secret, for a day.
+#![tactic(auto)]
+
 ghost use Rattle.std.specs.Prelude.{◌≡◌, true, cond, ◌&&◌, suc, ◌+◌, ◌-◌, ◌<◌, ◌≤◌, ◌^◌, eqb, ltb, length, get_or};
 ghost use Rattle.lists.specs.Checks.{refusal};
 ghost use Rattle.lists.specs.Tabulate.{tab, each};
@@ -19,14 +21,14 @@ use shares::Shape;
 use voting::Pairs;
 
 // Opened, with the survivors and those of them that agree; or refused with the documents' number, and with the survivors if that is 16.
-#[derive(Drop)]
+#[derive(Clone, Copy)]
 pub enum Outcome {
     Open { survivors: u32, agreeing: u32 },
     Refused { number: u16, survivors: u32 },
 }
 
 // What the shares open to, and how many pairs fell to each kind of vote.
-#[derive(Drop)]
+#[derive(Clone, Copy)]
 pub struct Reconstructed {
     pub outcome: Outcome,
     pub pairs: Pairs,
@@ -125,14 +127,14 @@ fn too_few(t: usize, survived: u32, left: u32) -> bool
 }
 
 // The survivors, and how many words are opened already.
-#[derive(Drop)]
+#[derive(Clone, Copy)]
 struct Progress {
     survived: u32,
     done: usize,
 }
 
 // What a word comes to: 16 if it has no polynomial, and else 0; whether it was worked out anew, in full; who meets its polynomial, and the value at 0.
-#[derive(Drop)]
+#[derive(Clone, Copy)]
 struct Word {
     number: u16,
     anew: bool,

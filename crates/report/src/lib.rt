@@ -1,4 +1,6 @@
 // What the program `opening` prints for a text: the two answers, and the whole.
+#![tactic(auto)]
+
 ghost use Rattle.std.specs.Prelude.{◌≡◌, [], ◌∷◌, ◌++◌, ◌+◌, ◌*◌, ◌≤◌, length, take};
 ghost use Rattle.lists.specs.Ascii.{ascii};
 ghost use Rattle.shares.specs.Layout.{capacity};

@@ -1,5 +1,7 @@
 // The calls for programs in C and Rust, declared in include/rutzebam.h. Each has the contract of the call it makes: the number
 // that is returned is that of the rules, 0 when it is done, and masks, numbers and counts are stored in lent places.
+#![tactic(auto)]
+
 ghost use Rattle.std.specs.Prelude.{◌≡◌, [], ◌∷◌, length};
 ghost use Rattle.mac.specs.Tag.{tag as tag_of};
 ghost use Rattle.pruning.specs.Pruning.{prune};

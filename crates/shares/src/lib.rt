@@ -1,4 +1,6 @@
 // A station's shape, where the words of its shares stand in a buffer, and its days.
+#![tactic(auto)]
+
 ghost use Rattle.std.specs.Prelude.{◌≡◌, ◌*◌, ◌<◌};
 ghost use Rattle.shares.specs.Layout.{is_day, word_place, tag_place, key_place};
 ghost use Rattle.shares.specs.Internal.Shape.{InRange, shape_of, Station, At};
@@ -11,7 +13,7 @@ pub fn is_day(day: u16) -> bool
 }
 
 // t, d, how many members there are, and how many words a share has.
-#[derive(Drop)]
+#[derive(Clone, Copy)]
 pub struct Shape {
     pub t: usize,
     pub d: usize,

@@ -1,5 +1,7 @@
 // Runs dealing: document 01's C5, the largest dealing, and each refusal. A line is the answer's number, 0 for dealt, and then words of the
 // share buffer at exit. The file stdout beside this folder is what another implementation answers, model.py.
+#![tactic(auto)]
+
 use dealing::Outcome;
 
 fn number(outcome: Outcome) -> u16 {

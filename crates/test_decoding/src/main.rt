@@ -1,5 +1,7 @@
 // Decodes words with no error, with as many as can be borne, and with one more, at several t and sets, and prints the results.
 // The expected output was worked out by another program, which solves the key equation by elimination.
+#![tactic(auto)]
+
 use decoding::Outcome;
 use libc::STDOUT_FILENO;
 
@@ -87,7 +89,7 @@ fn number(o: Outcome) -> u16 {
 }
 
 // A word to decode: how many of the set's members have a wrong value, what it is made from, and whether the wrong values lie on one other polynomial.
-#[derive(Drop)]
+#[derive(Clone, Copy)]
 struct Case {
     t: usize,
     set: u32,

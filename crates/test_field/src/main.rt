@@ -1,5 +1,7 @@
 // Runs the field, polynomials and tags on document 01's examples and on words from a fixed sequence, and prints the results.
 // The expected output was worked out by another program, in arbitrary-precision integers.
+#![tactic(auto)]
+
 use libc::STDOUT_FILENO;
 
 // A number and a tab.

@@ -1,5 +1,7 @@
 // Reads hand-in texts and prints for each the number, t, d, the quorum, the day, the present mask and a checksum of the buffer; then writes texts and
 // prints for each the number, the count and the buffer. The file stdout beside this folder is what another implementation answers, model.py.
+#![tactic(auto)]
+
 ghost use Rattle.std.specs.Prelude.{◌<◌};
 
 use handin::{Outcome, Wrote};

@@ -1,4 +1,6 @@
 // Prints what `report::report` gives for hand-in texts: the file stdout beside this folder is what another implementation answers, model.py.
+#![tactic(auto)]
+
 use libc::STDOUT_FILENO;
 
 fn prints(text: &[u8]) {

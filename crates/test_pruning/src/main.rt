@@ -1,4 +1,6 @@
 // Prunes tables of votes, and compares what is left with another way of finding the largest set.
+#![tactic(auto)]
+
 use libc::STDOUT_FILENO;
 use pruning::Survivors;
 
@@ -134,7 +136,7 @@ fn line(label: &[u8], n: u64) {
 }
 
 // How many tables agree, how many of them leave nobody and everybody, and the sum of what is left.
-#[derive(Drop)]
+#[derive(Clone, Copy)]
 struct Tally {
     agree: u64,
     nobody: u64,

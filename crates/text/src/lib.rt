@@ -1,4 +1,6 @@
 // Bytes of text both ways: numerals, fields and lines, read and printed.
+#![tactic(auto)]
+
 ghost use Rattle.std.specs.Prelude.{◌≡◌, cond, [], ◌∷◌, map, ◌+◌, ◌*◌, ◌≤◌, eqb, length};
 ghost use Rattle.std.proofs.Math.Option.{some, none};
 ghost use Rattle.lists.specs.Tabulate.{concat};
@@ -8,7 +10,7 @@ ghost use Rattle.text.specs.Internal.Steps.{kind_of, Marks, digits_from, numeral
 ghost use Rattle.text.specs.Internal.Writing.{Written};
 
 // What a byte is.
-#[derive(Drop)]
+#[derive(Clone, Copy)]
 enum Kind {
     Digit,
     Tab,
@@ -71,7 +73,7 @@ pub fn scan(bytes: &[u8], separator: u8) -> usize
 }
 
 // What a field stands for.
-#[derive(Drop)]
+#[derive(Clone, Copy)]
 enum Parsed {
     Number(u16),
     Nothing,
@@ -117,7 +119,7 @@ fn numeral(field: &[u8]) -> Parsed
 }
 
 // The next field of a line, after a tab.
-#[derive(Drop)]
+#[derive(Clone, Copy)]
 enum Field {
     Number { value: u16, end: usize },
     Nothing,

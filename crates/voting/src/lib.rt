@@ -1,5 +1,7 @@
 // Votes from shares for a day (document 01, 'Votes and pruning'; document 02, W-204 and W-205): who is usable, everybody's vote on everybody,
 // and how many there are of each kind.
+#![tactic(auto)]
+
 ghost use Rattle.std.specs.Prelude.{◌≡◌, true, cond, ◌&&◌, [], ◌∷◌, ◌+◌, ◌<◌, ◌≤◌, eqb, length, get_or, take, drop};
 ghost use Rattle.lists.specs.Tabulate.{tab};
 ghost use Rattle.mac.specs.Tag.{tag};
@@ -14,7 +16,7 @@ ghost use Rattle.voting.specs.Internal.Expected.{Keys, Expected, vote_against};
 use shares::Shape;
 
 // How the test of one tag comes out.
-#[derive(Drop)]
+#[derive(Clone, Copy)]
 pub enum Vote {
     Accepted,
     Mismatched,
@@ -22,7 +24,7 @@ pub enum Vote {
 }
 
 // How many votes there are of each kind.
-#[derive(Drop)]
+#[derive(Clone, Copy)]
 pub struct Pairs {
     pub accepted: u16,
     pub mismatched: u16,
@@ -30,7 +32,7 @@ pub struct Pairs {
 }
 
 // The votes on one member: those who accept it, and how many votes there are of each kind.
-#[derive(Drop)]
+#[derive(Clone, Copy)]
 pub struct Counted {
     pub row: u32,
     pub pairs: Pairs,

@@ -1,4 +1,6 @@
 // The program `weights`: the table of parity weights goes to standard output, one line each of n, i and word.
+#![tactic(auto)]
+
 ghost use Rattle.std.specs.Prelude.{◌≡◌, ◌+◌, ◌≤◌, ◌<◌, length};
 ghost use Rattle.members.specs.Members.{size};
 ghost use Rattle.text.specs.Internal.Writing.{Written};

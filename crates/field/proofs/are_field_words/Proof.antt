@@ -9,10 +9,10 @@ use Rattle.field.specs.Field.{is_field_word}
 use Rattle.field.proofs.are_field_words.Statement.{statement}
 use Rattle.field.proofs.are_field_words.Tie as tie
 
-abbrev invariant_loop : tie.invariant_loop
+abbrev invariant_loop : tie.invariant-loop-i
 invariant_loop words i₀ i = Tested is_field_word words i
 
-abbrev decreases_loop : tie.decreases_loop
+abbrev decreases_loop : tie.decreases-loop-i
 decreases_loop words i₀ i = length words - i
 
 pub are_field_words_spec : {M : Type 1} → statement M
@@ -25,8 +25,8 @@ are_field_words_spec =
     (λ c. omega arith)
     (λ c. omega arith)
     (λ c κs. tt)
-    (λ c. let at : tie.At-loop invariant_loop decreases_loop = search in tested_fails _ _ _ at.loop.inv 0 (omega arith) (search fails))
+    (λ c. let at : tie.At-loop-i invariant_loop decreases_loop = search in tested_fails _ _ _ at.loop-i.invariant 0 (omega arith) (search fails))
     (λ c. omega arith)
     (λ c. omega arith)
-    (λ c. let at : tie.At-loop invariant_loop decreases_loop = search in tested_next _ _ _ at.loop.inv 0 (omega arith) (search passes))
+    (λ c. let at : tie.At-loop-i invariant_loop decreases_loop = search in tested_next _ _ _ at.loop-i.invariant 0 (omega arith) (search passes))
     (λ c. search tested_last))

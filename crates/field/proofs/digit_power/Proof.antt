@@ -14,5 +14,5 @@ pub digit_power_spec : {M : Type 1} → statement M
 digit_power_spec =
     tie.close
     (tie.spec
-    (λ c. let entry : tie.Start = search in search (power-one, c.if1.true))
+    (λ c. let entry : tie.Start = search in search (power-one, c.if-k-eq1.true))
     (λ c. let entry : tie.Start = search in sym (ap (λ (n : ℕ). entry.args.a ^ n) (omega arith) ∙ pow-zero entry.args.a)))

@@ -8,23 +8,23 @@ use Rattle.field.proofs.Fits.{product_le}
 use Rattle.field.proofs.inner_product.Statement.{statement}
 use Rattle.field.proofs.inner_product.Tie as tie
 
-abbrev invariant_loop : tie.invariant_loop
+abbrev invariant_loop : tie.invariant-loop-i
 invariant_loop a b low₀ high₀ i₀ low high i = Halved a b low high i
 
-abbrev decreases_loop : tie.decreases_loop
+abbrev decreases_loop : tie.decreases-loop-i
 decreases_loop a b low₀ high₀ i₀ low high i = length a - i
 
 -- the places of the code that the answers below name
 abbrev Read : Type 0
-Read = tie.After-shared-slice-known4 invariant_loop decreases_loop
+Read = tie.After-shared_slice_known-in-loop-i-2-1 invariant_loop decreases_loop
 
 -- the two words' product
 small : (c : Read)
-    → let (start, loop) : tie.Start invariant_loop decreases_loop × tie.At-loop invariant_loop decreases_loop = (search, search) in
-    get_or start.args.a.now loop.loop.i 0 * get_or start.args.b.now loop.loop.i 0 ≤ 4294836225
+    → let (start, loop) : tie.Start invariant_loop decreases_loop × tie.At-loop-i invariant_loop decreases_loop = (search, search) in
+    get_or start.args.a.now loop.loop-i.i 0 * get_or start.args.b.now loop.loop-i.i 0 ≤ 4294836225
 small c =
-    let (loop, first) : tie.At-loop invariant_loop decreases_loop × tie.After-shared-slice-known3 invariant_loop decreases_loop = (search, search) in
-    product_le _ _ (omega (arith, first.shared_slice_known3.given loop.loop.i)) (omega (arith, c.shared_slice_known4.given loop.loop.i))
+    let (loop, first) : tie.At-loop-i invariant_loop decreases_loop × tie.After-shared_slice_known-in-loop-i-1 invariant_loop decreases_loop = (search, search) in
+    product_le _ _ (omega (arith, first.shared_slice_known-in-loop-i-1.given loop.loop-i.i)) (omega (arith, c.shared_slice_known-in-loop-i-2-1.given loop.loop-i.i))
 
 pub inner_product_spec : {M : Type 1} → statement M
 inner_product_spec =
@@ -36,10 +36,10 @@ inner_product_spec =
     -- let product = a[i] as u32 * b[i] as u32
     (λ c. omega arith)
     (λ c. omega arith)
-    (λ c. let loop : tie.At-loop invariant_loop decreases_loop = search in omega (arith, c.shared_slice_known3.given loop.loop.i))
+    (λ c. let loop : tie.At-loop-i invariant_loop decreases_loop = search in omega (arith, c.shared_slice_known-in-loop-i-1.given loop.loop-i.i))
     (λ c. omega arith)
     (λ c. omega arith)
-    (λ c. let loop : tie.At-loop invariant_loop decreases_loop = search in omega (arith, c.shared_slice_known4.given loop.loop.i))
+    (λ c. let loop : tie.At-loop-i invariant_loop decreases_loop = search in omega (arith, c.shared_slice_known-in-loop-i-2-1.given loop.loop-i.i))
     (λ c. omega (arith, small c))
     -- low = low + product % 65536
     (λ c. omega (arith, small c))

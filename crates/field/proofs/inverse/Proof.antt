@@ -47,10 +47,10 @@ done : (a result square k left : ℕ) → left ≤ 0 → Turn a result square k 
 done a result square k zero p h = last a result square k h
 done a result square k (suc f) p h = absurd (not-suc-le-zero p)
 
-abbrev invariant_loop : tie.invariant_loop
+abbrev invariant_loop : tie.invariant-loop-left
 invariant_loop a result₀ square₀ k₀ left₀ result square k left = Turn a result square k left
 
-abbrev decreases_loop : tie.decreases_loop
+abbrev decreases_loop : tie.decreases-loop-left
 decreases_loop a result₀ square₀ k₀ left₀ result square k left = left
 
 pub inverse_spec : {M : Type 1} → statement M

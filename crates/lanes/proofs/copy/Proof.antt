@@ -24,10 +24,10 @@ next from to₀ to j h long t = record { inside = omega arith; copied = gathered
 last : (from to₀ to : List ℕ) (j : ℕ) → 32 ≤ j → Turn from to₀ to j → Copied from to₀ to
 last from to₀ to j h t = record { kept = t.copied.long; same = λ k b. t.copied.so_far k (omega arith) }
 
-abbrev invariant_loop : tie.invariant_loop
+abbrev invariant_loop : tie.invariant-loop-j
 invariant_loop from to₀ j₀ to j = Turn from to₀ to j
 
-abbrev decreases_loop : tie.decreases_loop
+abbrev decreases_loop : tie.decreases-loop-j
 decreases_loop from to₀ j₀ to j = 32 - j
 
 pub copy_spec : {M : Type 1} → statement M
@@ -41,10 +41,10 @@ copy_spec =
     (λ c. omega arith)
     (λ c. omega arith)
     (λ c. omega arith)
-    (λ c. let loop : tie.At-loop invariant_loop decreases_loop = search in omega (arith, loop.loop.inv.copied.long))
+    (λ c. let loop : tie.At-loop-j invariant_loop decreases_loop = search in omega (arith, loop.loop-j.invariant.copied.long))
     -- j = j + 1
     (λ c. omega arith)
     (λ c. omega arith)
     (λ c. search next)
-    (λ c. let loop : tie.At-loop invariant_loop decreases_loop = search in omega (arith, loop.loop.inv.copied.long))
+    (λ c. let loop : tie.At-loop-j invariant_loop decreases_loop = search in omega (arith, loop.loop-j.invariant.copied.long))
     (λ c. search last))

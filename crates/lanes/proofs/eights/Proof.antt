@@ -27,17 +27,17 @@ next words rows values now k some t e = record { inside = omega (arith, t.inside
 last : (words rows values : List ℕ) (k : ℕ) → k ≤ 0 → Turn words rows values k → values ≡ values_from words rows 0
 last words rows values k done t = t.so_far ∙ ap (values_from words rows) {x = 8 * k} {y = 0} (omega arith)
 
-abbrev invariant_loop : tie.invariant_loop
+abbrev invariant_loop : tie.invariant-loop-k
 invariant_loop words rows values₀ k₀ values k = Turn words rows values k
 
-abbrev decreases_loop : tie.decreases_loop
+abbrev decreases_loop : tie.decreases-loop-k
 decreases_loop words rows values₀ k₀ values k = k
 
 abbrev Start : Type 0
 Start = tie.Start invariant_loop decreases_loop
 
 abbrev Loop : Type 0
-Loop = tie.At-loop invariant_loop decreases_loop
+Loop = tie.At-loop-k invariant_loop decreases_loop
 
 pub eights_spec : {M : Type 1} → statement M
 eights_spec =
@@ -49,11 +49,11 @@ eights_spec =
     -- k = k - 1
     (λ c. omega arith)
     -- block(words, 8 * k, rows, values)
-    (λ c. let loop : Loop = search in omega (arith, loop.loop.inv.inside))
-    (λ c κs. let (start, loop) : Start × Loop = (search, search) in (omega (arith, loop.loop.inv.inside), (start.pre.0, search ready)))
+    (λ c. let loop : Loop = search in omega (arith, loop.loop-k.invariant.inside))
+    (λ c κs. let (start, loop) : Start × Loop = (search, search) in (omega (arith, loop.loop-k.invariant.inside), (start.requires.0, search ready)))
     (λ c. omega arith)
     (λ c. search next)
     (λ c.
     let (start, loop) : Start × Loop = (search, search) in
-    omega (arith, values_length _ _ _ _ start.pre.1, values_length _ _ _ _ loop.loop.inv.so_far))
+    omega (arith, values_length _ _ _ _ start.requires.1, values_length _ _ _ _ loop.loop-k.invariant.so_far))
     (λ c. search last))

@@ -40,4 +40,4 @@ evaluate_with_spec =
     (λ c. search rules)
     (λ c.
     let (start, rows, lanes, copied) : tie.Start × tie.After-powers × tie.After-eights × tie.After-copy = (search, search, search, search) in
-    all_copied _ _ _ _ _ _ start.pre.0.1 rows.powers.ensures lanes.eights.ensures copied.copy.ensures))
+    all_copied _ _ _ _ _ _ start.requires.0.1 rows.powers.ensures lanes.eights.ensures copied.copy.ensures))

@@ -90,20 +90,20 @@ module _ (words : List ℕ) (at : ℕ) (rows : List ℕ) (j : ℕ) (fits : at + 
       ∙ eq_same (mod-word (total s)) (value-word (drop at words) x)
       (same_trans (reduced (total s)) (same_trans whole (same_sym (value_same (drop at words) x))))
 
-abbrev invariant_loop : tie.invariant_loop
+abbrev invariant_loop : tie.invariant-loop-m
 invariant_loop words at rows j after sum₀ m₀ sum m = Turn words at rows j sum m
 
-abbrev decreases_loop : tie.decreases_loop
+abbrev decreases_loop : tie.decreases-loop-m
 decreases_loop words at rows j after sum₀ m₀ sum m = 7 - m
 
 abbrev Start : Type 0
 Start = tie.Start invariant_loop decreases_loop
 
 abbrev Known : Type 0
-Known = tie.After-shared-slice-known3 invariant_loop decreases_loop
+Known = tie.After-shared_slice_known-3-1 invariant_loop decreases_loop
 
 abbrev Loop : Type 0
-Loop = tie.At-loop invariant_loop decreases_loop
+Loop = tie.At-loop-m invariant_loop decreases_loop
 
 pub lane_spec : {M : Type 1} → statement M
 lane_spec =
@@ -114,8 +114,8 @@ lane_spec =
     -- let mut sum = Halves { low: words[at] as u32, high: 0 }
     (λ c. omega arith)
     (λ c. omega arith)
-    (λ c. let (start, known) : Start × Known = (search, search) in omega (arith, known.shared_slice_known3.given start.args.at))
-    (λ c. let (start, known) : Start × Known = (search, search) in first _ _ _ _ (omega arith) (omega (arith, known.shared_slice_known3.given start.args.at)))
+    (λ c. let (start, known) : Start × Known = (search, search) in omega (arith, known.shared_slice_known-3-1.given start.args.at))
+    (λ c. let (start, known) : Start × Known = (search, search) in first _ _ _ _ (omega arith) (omega (arith, known.shared_slice_known-3-1.given start.args.at)))
     -- sum = accumulate(sum, rows[32 * m + j], words[at + m + 1])
     (λ c. omega arith)
     (λ c. omega arith)
@@ -125,7 +125,7 @@ lane_spec =
     (λ c. omega arith)
     (λ c. omega arith)
     (λ c. omega arith)
-    (λ c κs. let loop : Loop = search in (omega (arith, loop.loop.inv.low_few), omega (arith, loop.loop.inv.high_few)))
+    (λ c κs. let loop : Loop = search in (omega (arith, loop.loop-m.invariant.low_few), omega (arith, loop.loop-m.invariant.high_few)))
     -- m = m + 1
     (λ c. omega arith)
     (λ c. omega arith)
@@ -134,6 +134,6 @@ lane_spec =
     (λ c. omega arith)
     (λ c. omega arith)
     (λ c. omega arith)
-    (λ c κs. let loop : Loop = search in (omega (arith, loop.loop.inv.low_few), omega (arith, loop.loop.inv.high_few)))
-    (λ c κs. let loop : Loop = search in (omega (arith, loop.loop.inv.low_few), omega (arith, loop.loop.inv.high_few)))
+    (λ c κs. let loop : Loop = search in (omega (arith, loop.loop-m.invariant.low_few), omega (arith, loop.loop-m.invariant.high_few)))
+    (λ c κs. let loop : Loop = search in (omega (arith, loop.loop-m.invariant.low_few), omega (arith, loop.loop-m.invariant.high_few)))
     (λ c. search last))

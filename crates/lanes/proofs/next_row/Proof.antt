@@ -48,10 +48,10 @@ last : (rows₀ : List ℕ) (m : ℕ) (rows : List ℕ) (j : ℕ) → 32 ≤ j �
 last rows₀ m rows j h t =
     record { long = t.made.long; first = t.made.first; steps = λ p b. t.made.steps p (omega arith) }
 
-abbrev invariant_loop : tie.invariant_loop
+abbrev invariant_loop : tie.invariant-loop-j
 invariant_loop rows₀ m from j₀ rows j = Turn rows₀ m rows j
 
-abbrev decreases_loop : tie.decreases_loop
+abbrev decreases_loop : tie.decreases-loop-j
 decreases_loop rows₀ m from j₀ rows j = 32 - j
 
 pub next_row_spec : {M : Type 1} → statement M

@@ -33,14 +33,14 @@ next words rows values now whole at less t e = record { low = omega arith; high 
 last : (words rows values : List ℕ) (whole at : ℕ) → at ≤ whole → Turn words rows values whole at → values ≡ values_from words rows whole
 last words rows values whole at done t = t.so_far ∙ ap (values_from words rows) {x = at} {y = whole} (omega (arith, t.low))
 
-abbrev invariant_loop : tie.invariant_loop
+abbrev invariant_loop : tie.invariant-loop-at
 invariant_loop words rows values₀ whole at₀ values at = Turn words rows values whole at
 
-abbrev decreases_loop : tie.decreases_loop
+abbrev decreases_loop : tie.decreases-loop-at
 decreases_loop words rows values₀ whole at₀ values at = at
 
 abbrev Loop : Type 0
-Loop = tie.At-loop invariant_loop decreases_loop
+Loop = tie.At-loop-at invariant_loop decreases_loop
 
 pub odd_words_spec : {M : Type 1} → statement M
 odd_words_spec =
@@ -55,8 +55,8 @@ odd_words_spec =
     -- at = at - 1
     (λ c. omega arith)
     -- one(words, at, rows, values)
-    (λ c κs. let loop : Loop = search in ((omega (arith, loop.loop.inv.high), omega arith), search ready))
+    (λ c κs. let loop : Loop = search in ((omega (arith, loop.loop-at.invariant.high), omega arith), search ready))
     (λ c. omega arith)
     (λ c. search next)
-    (λ c. let loop : Loop = search in omega (arith, values_length _ _ _ _ loop.loop.inv.so_far))
+    (λ c. let loop : Loop = search in omega (arith, values_length _ _ _ _ loop.loop-at.invariant.so_far))
     (λ c. search last))

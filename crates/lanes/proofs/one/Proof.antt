@@ -29,10 +29,10 @@ next words at rows values j r h less t e =
     ∙ sym (value-cons (get_or words at 0) (drop (at + 1) words) (get_or rows j 0))
     ∙ ap (λ (l : List ℕ). value l (get_or rows j 0)) (sym (left-cons words at 0 h)))
 
-abbrev invariant_loop : tie.invariant_loop
+abbrev invariant_loop : tie.invariant-loop-j
 invariant_loop words at rows values₀ word j₀ values j = Turn words at rows values j
 
-abbrev decreases_loop : tie.decreases_loop
+abbrev decreases_loop : tie.decreases-loop-j
 decreases_loop words at rows values₀ word j₀ values j = 32 - j
 
 pub one_spec : {M : Type 1} → statement M
@@ -50,15 +50,15 @@ one_spec =
     (λ c. omega arith)
     (λ c. omega arith)
     (λ c. omega arith)
-    (λ c. let loop : tie.At-loop invariant_loop decreases_loop = search in omega (arith, loop.loop.inv.long))
+    (λ c. let loop : tie.At-loop-j invariant_loop decreases_loop = search in omega (arith, loop.loop-j.invariant.long))
     (λ c κs. search rules)
     (λ c. omega arith)
-    (λ c. let loop : tie.At-loop invariant_loop decreases_loop = search in omega (arith, loop.loop.inv.long))
+    (λ c. let loop : tie.At-loop-j invariant_loop decreases_loop = search in omega (arith, loop.loop-j.invariant.long))
     -- j = j + 1
     (λ c. omega arith)
     (λ c. omega arith)
     (λ c. search next)
     (λ c.
-    let (start, loop) : tie.Start invariant_loop decreases_loop × tie.At-loop invariant_loop decreases_loop = (search, search) in
-    omega (arith, loop.loop.inv.long, lanes_length _ _ start.pre.1))
+    let (start, loop) : tie.Start invariant_loop decreases_loop × tie.At-loop-j invariant_loop decreases_loop = (search, search) in
+    omega (arith, loop.loop-j.invariant.long, lanes_length _ _ start.requires.1))
     (λ c. search replaced_last))

@@ -29,14 +29,14 @@ next points rows now m less t more_rows =
 last : (points rows : List ℕ) (m : ℕ) → 7 ≤ m → Turn points rows m → PowerRows points rows 224
 last points rows m done t = record { long = t.made.long; first = t.made.first; steps = λ p b. t.made.steps p (omega arith) }
 
-abbrev invariant_loop : tie.invariant_loop
+abbrev invariant_loop : tie.invariant-loop-m
 invariant_loop points rows₀ m₀ rows m = Turn points rows m
 
-abbrev decreases_loop : tie.decreases_loop
+abbrev decreases_loop : tie.decreases-loop-m
 decreases_loop points rows₀ m₀ rows m = 7 - m
 
 abbrev Loop : Type 0
-Loop = tie.At-loop invariant_loop decreases_loop
+Loop = tie.At-loop-m invariant_loop decreases_loop
 
 pub powers_spec : {M : Type 1} → statement M
 powers_spec =
@@ -48,10 +48,10 @@ powers_spec =
     (λ c κs. (omega arith, omega arith))
     (λ c. search first)
     -- next_row(rows, m)
-    (λ c κs. let loop : Loop = search in (own_powers loop.loop.inv.made, omega arith))
+    (λ c κs. let loop : Loop = search in (own_powers loop.loop-m.invariant.made, omega arith))
     -- m = m + 1
     (λ c. omega arith)
     (λ c. omega arith)
     (λ c. search next)
-    (λ c. let loop : Loop = search in omega (arith, loop.loop.inv.made.long))
+    (λ c. let loop : Loop = search in omega (arith, loop.loop-m.invariant.made.long))
     (λ c. search last))

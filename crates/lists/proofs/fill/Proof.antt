@@ -36,10 +36,10 @@ last word n buffer i h t =
     let e : i ≡ n = omega (arith, t.inside, t.kept) in
     sym (take_all i buffer h) ∙ t.so_far ∙ ap (λ (k : ℕ). replicate k word) e
 
-abbrev invariant_loop : tie.invariant_loop
+abbrev invariant_loop : tie.invariant-loop-i
 invariant_loop buffer₀ word i₀ buffer i = Turn word (length buffer₀) buffer i
 
-abbrev decreases_loop : tie.decreases_loop
+abbrev decreases_loop : tie.decreases-loop-i
 decreases_loop buffer₀ word i₀ buffer i = length buffer - i
 
 pub fill_spec : {M : Type 1} → statement M

@@ -40,10 +40,10 @@ unfolding mixed
 last u v n g whole f j h t =
     sym (ap₂ (λ (a l : List ℕ). a ++ mixed u l v (drop j g)) (take_all j f h) (drop_of_length-le f h) ∙ append-nil f) ∙ t.so_far
 
-abbrev invariant_loop : tie.invariant_loop
+abbrev invariant_loop : tie.invariant-loop-j
 invariant_loop u f₀ v g j₀ f j = Turn u v (length f₀) g (mixed u f₀ v g) f j
 
-abbrev decreases_loop : tie.decreases_loop
+abbrev decreases_loop : tie.decreases-loop-j
 decreases_loop u f₀ v g j₀ f j = length f - j
 
 pub mix_spec : {M : Type 1} → statement M

@@ -21,5 +21,5 @@ off_by_spec =
     (λ c κs. search rules)
     (λ c κs. search rules)
     (λ c.
-    let (entry, first, second, times) : tie.Start × tie.After-evaluate × tie.After-evaluate2 × tie.After-multiply = (search, search, search, search) in
-    off_is _ _ entry.args.pair.now _ _ _ _ entry.pre first.evaluate.ensures second.evaluate2.ensures times.multiply.ensures c.subtract.ensures))
+    let (entry, first, second, times) : tie.Start × tie.After-evaluate × tie.After-evaluate-2 × tie.After-multiply = (search, search, search, search) in
+    off_is _ _ entry.args.pair.now _ _ _ _ entry.requires first.evaluate.ensures second.evaluate-2.ensures times.multiply.ensures c.subtract.ensures))

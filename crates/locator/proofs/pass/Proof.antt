@@ -9,10 +9,10 @@ use Rattle.locator.proofs.Passes.{Turn, room_0, room_32, first, next, last}
 use Rattle.locator.proofs.pass.Statement.{statement}
 use Rattle.locator.proofs.pass.Tie as tie
 
-abbrev invariant_loop : tie.invariant_loop
+abbrev invariant_loop : tie.invariant-loop-i
 invariant_loop t points values set p₀ q₀ at₀ i₀ p q at i = Turn points t values set p q at i
 
-abbrev decreases_loop : tie.decreases_loop
+abbrev decreases_loop : tie.decreases-loop-i
 decreases_loop t points values set p₀ q₀ at₀ i₀ p q at i = length values - i
 
 pub pass_spec : {M : Type 1} → statement M
@@ -34,7 +34,7 @@ pass_spec =
     (λ c κs. search rules)
     (λ c κs.
     let entry : tie.Start invariant_loop decreases_loop = search in
-    let few : size entry.args.t ≤ 31 = size_31 entry.args.t entry.pre.0 in
+    let few : size entry.args.t ≤ 31 = size_31 entry.args.t entry.requires.0 in
     search rules)
     -- i = i + 1;
     (λ c. search rules)
@@ -42,4 +42,4 @@ pass_spec =
     (λ c. search next)
     (λ c. search rules)
     (λ c. search rules)
-    (λ c. let at_loop : tie.At-loop invariant_loop decreases_loop = search in search (last at_loop.loop.inv)))
+    (λ c. let at_loop : tie.At-loop-i invariant_loop decreases_loop = search in search (last at_loop.loop-i.invariant)))

@@ -38,10 +38,10 @@ unfolding raised
 last x n whole f carry j h t =
     sym (ap₂ (λ (a l : List ℕ). a ++ raised x carry l) (take_all j f h) (drop_of_length-le f h) ∙ append-nil f) ∙ t.so_far
 
-abbrev invariant_loop : tie.invariant_loop
+abbrev invariant_loop : tie.invariant-loop-j
 invariant_loop x f₀ minus carry₀ j₀ f carry j = Turn x (length f₀) (raised x 0 f₀) f carry j
 
-abbrev decreases_loop : tie.decreases_loop
+abbrev decreases_loop : tie.decreases-loop-j
 decreases_loop x f₀ minus carry₀ j₀ f carry j = length f - j
 
 pub raise_spec : {M : Type 1} → statement M

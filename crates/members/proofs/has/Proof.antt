@@ -11,7 +11,7 @@ pub has_spec : {M : Type 1} → statement M
 has_spec =
     tie.close
     (tie.spec
-    (λ c. let entry : tie.Start = search in sym (has_above 32 entry.args.set entry.args.i entry.fits.set.fits c.if1.true))
+    (λ c. let entry : tie.Start = search in sym (has_above 32 entry.args.set entry.args.i entry.ranges.set.fits c.if-i-ge32.true))
     (λ c. search rules)
     (λ c. search rules)
     (λ c. search shift_has))

@@ -9,10 +9,10 @@ use native.Mathlib.Omega.{arith}
 use Rattle.members.proofs.only.Statement.{statement}
 use Rattle.members.proofs.only.Tie as tie
 
-cast_result : tie.Need-overflow-cast-result
+cast_result : tie.Need-overflow_cast-result
 cast_result c = search rules
 
-shl_result : tie.Need-overflow-shl-result
+shl_result : tie.Need-overflow_shl-result
 shl_result c = search rules
 
 returns : tie.Need-returns

@@ -8,11 +8,11 @@ use Rattle.members.proofs.Words.{striking-and, striking_beyond}
 use Rattle.members.proofs.without.Statement.{statement}
 use Rattle.members.proofs.without.Tie as tie
 
-returns_2 : tie.Need-returns-2
+returns_2 : tie.Need-returns
 returns_2 c =
-    let (entry, at_if1) : tie.Start × tie.Else1 = (search, search) in
+    let (entry, at_if1) : tie.Start × tie.Else-i-ge32 = (search, search) in
     ap (λ (x : ℕ). bit_and entry.args.set (4294967295 - x)) c.only.ensures
-    ∙ striking-and entry.args.set entry.args.i entry.fits.set.fits at_if1.if1.left
+    ∙ striking-and entry.args.set entry.args.i entry.ranges.set.fits at_if1.if-i-ge32.false
 
 pub without_spec : {M : Type 1} → statement M
 without_spec = tie.close (tie.spec (λ c. search striking_beyond) (λ c κs. search rules) returns_2)

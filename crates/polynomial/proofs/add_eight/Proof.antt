@@ -46,15 +46,15 @@ last {block} {powers} {top} {sum} {m} turn lb h =
       omega (arith, turn.small),
     )
 
-abbrev invariant_loop : tie.invariant_loop
+abbrev invariant_loop : tie.invariant-loop-m
 invariant_loop block powers top sum₀ m₀ sum m = Turn block powers top sum m
 
-abbrev decreases_loop : tie.decreases_loop
+abbrev decreases_loop : tie.decreases-loop-m
 decreases_loop block powers top sum₀ m₀ sum m = 8 - m
 
 -- the eighth power is a word
-word : (c : tie.After-shared-slice-known3 invariant_loop decreases_loop) → let start : tie.Start invariant_loop decreases_loop = search in get_or start.args.powers.now 8 0 ≤ 65535
-word c = omega (arith, c.shared_slice_known3.given 8)
+word : (c : tie.After-shared_slice_known-3-1 invariant_loop decreases_loop) → let start : tie.Start invariant_loop decreases_loop = search in get_or start.args.powers.now 8 0 ≤ 65535
+word c = omega (arith, c.shared_slice_known-3-1.given 8)
 
 pub add_eight_spec : {M : Type 1} → statement M
 add_eight_spec =
@@ -64,11 +64,11 @@ add_eight_spec =
     decreases_loop
     -- let mut sum = top * powers[8] as u64
     (λ c. omega arith)
-    (λ c. omega (arith, c.shared_slice_known3.given 8))
+    (λ c. omega (arith, c.shared_slice_known-3-1.given 8))
     (λ c.
-    let (start, known) : tie.Start invariant_loop decreases_loop × tie.After-shared-slice-known3 invariant_loop decreases_loop = (search, search) in
+    let (start, known) : tie.Start invariant_loop decreases_loop × tie.After-shared_slice_known-3-1 invariant_loop decreases_loop = (search, search) in
     omega (arith, scaled start.args.top (get_or start.args.powers.now 8 0) (word known)))
-    (λ c. let known : tie.After-shared-slice-known3 invariant_loop decreases_loop = search in first _ _ _ (word known))
+    (λ c. let known : tie.After-shared_slice_known-3-1 invariant_loop decreases_loop = search in first _ _ _ (word known))
     -- sum = sum + field::whole_product(block[m], powers[m])
     (λ c. omega arith)
     (λ c. omega arith)
@@ -80,6 +80,6 @@ add_eight_spec =
     (λ c. omega arith)
     (λ c. omega arith)
     (λ c.
-    let (start, loop, in_loop) : tie.Start invariant_loop decreases_loop × tie.At-loop invariant_loop decreases_loop × tie.In-loop invariant_loop decreases_loop = (search, search, search) in
-    next loop.loop.inv start.pre.0 start.pre.1 in_loop.loop-test.taken c.whole_product.ensures.0 c.whole_product.ensures.1)
-    (λ c. let (start, loop) : tie.Start invariant_loop decreases_loop × tie.At-loop invariant_loop decreases_loop = (search, search) in search (last loop.loop.inv)))
+    let (start, loop, in_loop) : tie.Start invariant_loop decreases_loop × tie.At-loop-m invariant_loop decreases_loop × tie.In-loop-m invariant_loop decreases_loop = (search, search, search) in
+    next loop.loop-m.invariant start.requires.0 start.requires.1 in_loop.loop-m-test.true c.whole_product-sum.ensures.0 c.whole_product-sum.ensures.1)
+    (λ c. let (start, loop) : tie.Start invariant_loop decreases_loop × tie.At-loop-m invariant_loop decreases_loop = (search, search) in search (last loop.loop-m.invariant)))

@@ -58,10 +58,10 @@ last : (cs : List ℕ) (x k result : ℕ) → k ≤ 0 → Turn cs x k result →
 last cs x zero result p h = h.so_far
 last cs x (suc k) result p h = absurd (not-suc-le-zero p)
 
-abbrev invariant_loop : tie.invariant_loop
+abbrev invariant_loop : tie.invariant-loop-k
 invariant_loop coefficients x square cube fourth k₀ result₀ k result = Turn coefficients x k result
 
-abbrev decreases_loop : tie.decreases_loop
+abbrev decreases_loop : tie.decreases-loop-k
 decreases_loop coefficients x square cube fourth k₀ result₀ k result = k
 
 pub by_four_spec : {M : Type 1} → statement M
@@ -99,8 +99,8 @@ by_four_spec =
     (λ c κs. tt)
     (λ c. omega arith)
     (λ c.
-    let (s, q, f, at, in_loop) : tie.After-multiply invariant_loop decreases_loop × tie.After-multiply2 invariant_loop decreases_loop × tie.After-multiply3 invariant_loop decreases_loop
-    × tie.At-loop invariant_loop decreases_loop × tie.In-loop invariant_loop decreases_loop = (search, search, search, search, search) in
-    next _ _ _ _ _ s.multiply.ensures q.multiply2.ensures f.multiply3.ensures _ _ _ in_loop.loop-test.taken at.loop.inv
-    c.add_four_products.ensures)
+    let (s, q, f, at, in_loop) : tie.After-multiply-square invariant_loop decreases_loop × tie.After-multiply-cube invariant_loop decreases_loop × tie.After-multiply-fourth invariant_loop decreases_loop
+    × tie.At-loop-k invariant_loop decreases_loop × tie.In-loop-k invariant_loop decreases_loop = (search, search, search, search, search) in
+    next _ _ _ _ _ s.multiply-square.ensures q.multiply-cube.ensures f.multiply-fourth.ensures _ _ _ in_loop.loop-k-test.true at.loop-k.invariant
+    c.add_four_products-result.ensures)
     (λ c. search last))

@@ -9,10 +9,10 @@ use borrow.Author.Rules.{rules}
 use Rattle.polynomial.proofs.divide.Statement.{statement}
 use Rattle.polynomial.proofs.divide.Tie as tie
 
-abbrev invariant_loop : tie.invariant_loop
+abbrev invariant_loop : tie.invariant-loop-i
 invariant_loop points values₀ i₀ values i = Divided points (length values₀) (divided points values₀) values i
 
-abbrev decreases_loop : tie.decreases_loop
+abbrev decreases_loop : tie.decreases-loop-i
 decreases_loop points values₀ i₀ values i = length points - i
 
 pub divide_spec : {M : Type 1} → statement M

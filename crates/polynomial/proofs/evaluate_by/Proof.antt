@@ -43,10 +43,10 @@ last : {cs : List ℕ} {x k result : ℕ} → Turn cs x k result → k ≤ 0 →
 last {k = zero} turn h = turn.so_far
 last {k = suc k} turn h = absurd (not-suc-le-zero h)
 
-abbrev invariant_loop : tie.invariant_loop
+abbrev invariant_loop : tie.invariant-loop-k
 invariant_loop coefficients x powers k₀ result₀ k result = Turn coefficients x k result
 
-abbrev decreases_loop : tie.decreases_loop
+abbrev decreases_loop : tie.decreases-loop-k
 decreases_loop coefficients x powers k₀ result₀ k result = k
 
 pub evaluate_by_spec : {M : Type 1} → statement M

@@ -6,10 +6,10 @@ use borrow.Author.Rules.{rules}
 use Rattle.polynomial.proofs.expand.Statement.{statement}
 use Rattle.polynomial.proofs.expand.Tie as tie
 
-abbrev invariant_loop : tie.invariant_loop
+abbrev invariant_loop : tie.invariant-loop-i
 invariant_loop points words₀ i₀ words i = Expanded points words₀ words i
 
-abbrev decreases_loop : tie.decreases_loop
+abbrev decreases_loop : tie.decreases-loop-i
 decreases_loop points words₀ i₀ words i = i
 
 pub expand_spec : {M : Type 1} → statement M

@@ -66,10 +66,10 @@ next {x} {n} {m} {w} {square} {powers} turn h es ew =
 last : {x n m : ℕ} {powers : List ℕ} → Turn x n powers m → length powers ≤ m → Powers x powers
 last turn h = record { at = λ k l. (turn.so_far k (omega arith)).same }
 
-abbrev invariant_loop : tie.invariant_loop
+abbrev invariant_loop : tie.invariant-loop-m
 invariant_loop x powers₀ square m₀ powers m = Turn x (length powers₀) powers m
 
-abbrev decreases_loop : tie.decreases_loop
+abbrev decreases_loop : tie.decreases-loop-m
 decreases_loop x powers₀ square m₀ powers m = length powers - m
 
 pub fill_powers_spec : {M : Type 1} → statement M
@@ -85,14 +85,14 @@ fill_powers_spec =
     (λ c. search first)
     -- powers[m] = field::multiply(powers[m - 2], square)
     (λ c. omega arith)
-    (λ c. let loop : tie.At-loop invariant_loop decreases_loop = search in omega (arith, simp length-set at loop.loop.inv.kept))
+    (λ c. let loop : tie.At-loop-m invariant_loop decreases_loop = search in omega (arith, simp length-set at loop.loop-m.invariant.kept))
     (λ c. omega arith)
     (λ c κs. tt)
-    (λ c. let loop : tie.At-loop invariant_loop decreases_loop = search in omega (arith, simp length-set at loop.loop.inv.kept))
+    (λ c. let loop : tie.At-loop-m invariant_loop decreases_loop = search in omega (arith, simp length-set at loop.loop-m.invariant.kept))
     (λ c. omega arith)
     -- m = m + 1
-    (λ c. let loop : tie.At-loop invariant_loop decreases_loop = search in omega (arith, simp length-set at loop.loop.inv.kept))
+    (λ c. let loop : tie.At-loop-m invariant_loop decreases_loop = search in omega (arith, simp length-set at loop.loop-m.invariant.kept))
     (λ c. simp length-set (omega arith))
     (λ c. search next)
-    (λ c. let loop : tie.At-loop invariant_loop decreases_loop = search in omega (arith, simp length-set at loop.loop.inv.kept))
+    (λ c. let loop : tie.At-loop-m invariant_loop decreases_loop = search in omega (arith, simp length-set at loop.loop-m.invariant.kept))
     (λ c. search last))

@@ -39,10 +39,10 @@ last : (cs : List ℕ) (x result i : ℕ) → i ≤ 0 → Turn cs x result i →
 last cs x result zero p h = h.so_far
 last cs x result (suc i) p h = absurd (not-suc-le-zero p)
 
-abbrev invariant_loop : tie.invariant_loop
+abbrev invariant_loop : tie.invariant-loop-i
 invariant_loop coefficients x result₀ i₀ result i = Turn coefficients x result i
 
-abbrev decreases_loop : tie.decreases_loop
+abbrev decreases_loop : tie.decreases-loop-i
 decreases_loop coefficients x result₀ i₀ result i = i
 
 pub horner_spec : {M : Type 1} → statement M

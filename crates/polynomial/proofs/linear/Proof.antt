@@ -69,10 +69,10 @@ last : (x n : ℕ) (whole words : List ℕ) (j w : ℕ) → n - 1 ≤ j → Turn
 last x n whole words j w h t ew =
     let e : n - 1 ≡ j = omega (arith, t.kept, t.inside) in rw e (end x n whole words j w (omega (arith, t.kept)) t (rw e at ew))
 
-abbrev invariant_loop : tie.invariant_loop
+abbrev invariant_loop : tie.invariant-loop-j
 invariant_loop x words₀ i minus last j₀ words j = Turn x (length words₀) (linear_from x words₀ i) words j
 
-abbrev decreases_loop : tie.decreases_loop
+abbrev decreases_loop : tie.decreases-loop-j
 decreases_loop x words₀ i minus last j₀ words j = last - j
 
 pub linear_spec : {M : Type 1} → statement M

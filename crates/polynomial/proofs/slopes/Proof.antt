@@ -50,10 +50,10 @@ last x y points n whole values j h t =
     ∙ append-nil values)
     ∙ t.so_far
 
-abbrev invariant_loop : tie.invariant_loop
+abbrev invariant_loop : tie.invariant-loop-j
 invariant_loop points values₀ i x y j₀ values j = Turn x y points (length values₀) (slopes_from points values₀ i) values j
 
-abbrev decreases_loop : tie.decreases_loop
+abbrev decreases_loop : tie.decreases-loop-j
 decreases_loop points values₀ i x y j₀ values j = length values - j
 
 pub slopes_spec : {M : Type 1} → statement M
@@ -82,9 +82,9 @@ slopes_spec =
     (λ c. omega arith)
     (λ c. simp length-set (omega arith))
     (λ c.
-    let (at_loop, in_loop, rise) : tie.At-loop invariant_loop decreases_loop × tie.In-loop invariant_loop decreases_loop × tie.After-subtract invariant_loop decreases_loop = (search, search, search) in
-    let run : tie.After-inverse-of-difference invariant_loop decreases_loop = search in
-    next _ _ _ _ _ _ _ _ _ _ in_loop.loop-test.taken at_loop.loop.inv rise.subtract.ensures run.inverse_of_difference.ensures
+    let (at_loop, in_loop, rise) : tie.At-loop-j invariant_loop decreases_loop × tie.In-loop-j invariant_loop decreases_loop × tie.After-subtract-rise invariant_loop decreases_loop = (search, search, search) in
+    let run : tie.After-inverse_of_difference invariant_loop decreases_loop = search in
+    next _ _ _ _ _ _ _ _ _ _ in_loop.loop-j-test.true at_loop.loop-j.invariant rise.subtract-rise.ensures run.inverse_of_difference.ensures
     c.multiply.ensures)
     (λ c. search rules)
     (λ c. search last))

@@ -6,10 +6,10 @@ use Rattle.pruning.proofs.Steps.{Looking, looking_first, looking_inside, looking
 use Rattle.pruning.proofs.next_short.Statement.{statement}
 use Rattle.pruning.proofs.next_short.Tie as tie
 
-abbrev invariant_loop : tie.invariant_loop
+abbrev invariant_loop : tie.invariant-loop-rest
 invariant_loop need set counts rest₀ rest = Looking need set counts rest
 
-abbrev decreases_loop : tie.decreases_loop
+abbrev decreases_loop : tie.decreases-loop-rest
 decreases_loop need set counts rest₀ rest = rest
 
 pub next_short_spec : {M : Type 1} → statement M
@@ -22,9 +22,9 @@ next_short_spec =
     -- let i = members::lowest(rest)
     (λ c κs. search rules)
     -- if (counts[i] as usize) < need
-    (λ c. let low : tie.After-lowest invariant_loop decreases_loop = search in omega (arith, low.lowest.ensures.inside))
+    (λ c. let low : tie.After-lowest-i invariant_loop decreases_loop = search in omega (arith, low.lowest-i.ensures.inside))
     (λ c. search looking_inside)
-    (λ c. let low : tie.After-lowest invariant_loop decreases_loop = search in omega (arith, c.shared_slice_known2.given low.lowest.result))
+    (λ c. let low : tie.After-lowest-i invariant_loop decreases_loop = search in omega (arith, c.shared_slice_known-in-loop-rest-1.given low.lowest-i.result))
     (λ c. search looking_found)
     -- rest = members::without(rest, i)
     (λ c κs. search rules)

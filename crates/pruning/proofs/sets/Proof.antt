@@ -10,10 +10,10 @@ use Rattle.pruning.proofs.Steps.{row_beyond, row_within}
 use Rattle.pruning.proofs.sets.Statement.{statement}
 use Rattle.pruning.proofs.sets.Tie as tie
 
-abbrev invariant_loop : tie.invariant_loop
+abbrev invariant_loop : tie.invariant-loop-k
 invariant_loop n rows all k₀ k = Tested (is_set n) rows k
 
-abbrev decreases_loop : tie.decreases_loop
+abbrev decreases_loop : tie.decreases-loop-k
 decreases_loop n rows all k₀ k = length rows - k
 
 pub sets_spec : {M : Type 1} → statement M

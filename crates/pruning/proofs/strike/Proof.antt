@@ -8,15 +8,15 @@ use Rattle.pruning.proofs.Steps.{counted_long, Subtracted, strike_first, strike_
 use Rattle.pruning.proofs.strike.Statement.{statement}
 use Rattle.pruning.proofs.strike.Tie as tie
 
-abbrev invariant_loop : tie.invariant_loop
+abbrev invariant_loop : tie.invariant-loop-k
 invariant_loop t rows set i counts₀ n k₀ counts k = Subtracted t rows set i counts k
 
-abbrev decreases_loop : tie.decreases_loop
+abbrev decreases_loop : tie.decreases-loop-k
 decreases_loop t rows set i counts₀ n k₀ counts k = n - k
 
 -- k is a member
-inside : (c : tie.In-loop invariant_loop decreases_loop)
-    → let (start, loop) : tie.Start invariant_loop decreases_loop × tie.At-loop invariant_loop decreases_loop = (search, search) in loop.loop.k < size start.args.t
+inside : (c : tie.In-loop-k invariant_loop decreases_loop)
+    → let (start, loop) : tie.Start invariant_loop decreases_loop × tie.At-loop-k invariant_loop decreases_loop = (search, search) in loop.loop-k.k < size start.args.t
 inside c = omega arith
 
 pub strike_spec : {M : Type 1} → statement M
@@ -42,6 +42,6 @@ strike_spec =
     -- members::without(set, i)
     (λ c κs. search rules)
     (λ c.
-    let (start, loop) : tie.Start invariant_loop decreases_loop × tie.At-loop invariant_loop decreases_loop = (search, search) in
-    omega (arith, counted_long _ _ _ _ start.pre.1.1))
-    (λ c. let at : tie.At-loop invariant_loop decreases_loop = search in strike_last _ _ _ _ _ _ at.loop.inv _ (omega arith) search))
+    let (start, loop) : tie.Start invariant_loop decreases_loop × tie.At-loop-k invariant_loop decreases_loop = (search, search) in
+    omega (arith, counted_long _ _ _ _ start.requires.1.1))
+    (λ c. let at : tie.At-loop-k invariant_loop decreases_loop = search in strike_last _ _ _ _ _ _ at.loop-k.invariant _ (omega arith) search))

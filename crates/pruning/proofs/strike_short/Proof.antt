@@ -10,21 +10,21 @@ use Rattle.pruning.proofs.Steps.{counted_long, Going, going_first, going_below, 
 use Rattle.pruning.proofs.strike_short.Statement.{statement}
 use Rattle.pruning.proofs.strike_short.Tie as tie
 
-abbrev invariant_loop : tie.invariant_loop
+abbrev invariant_loop : tie.invariant-loop-next
 invariant_loop t rows counts₀ n need set₀ next₀ counts set next = Going t rows set counts × FirstShort need set counts next
 
-abbrev decreases_loop : tie.decreases_loop
+abbrev decreases_loop : tie.decreases-loop-next
 decreases_loop t rows counts₀ n need set₀ next₀ counts set next = set
 
 abbrev Start : Type 0
 Start = tie.Start invariant_loop decreases_loop
 
 abbrev Loop : Type 0
-Loop = tie.At-loop invariant_loop decreases_loop
+Loop = tie.At-loop-next invariant_loop decreases_loop
 
 -- the next one is a member
-inside : (c : tie.In-loop invariant_loop decreases_loop)
-    → let (start, loop) : Start × Loop = (search, search) in loop.loop.next < size start.args.t
+inside : (c : tie.In-loop-next invariant_loop decreases_loop)
+    → let (start, loop) : Start × Loop = (search, search) in loop.loop-next.next < size start.args.t
 unfolding size
 inside c = omega arith
 
@@ -47,11 +47,11 @@ strike_short_spec =
     (λ c κs. search (strike_below, inside))
     (λ c. search (going_less, inside))
     (λ c.
-    let (start, loop, turn, struck) : Start × Loop × tie.In-loop invariant_loop decreases_loop × tie.After-strike invariant_loop decreases_loop = (search, search, search, search) in
-    (going_on _ _ start.pre.0 _ _ loop.loop.inv.0 _ _ loop.loop.inv.1 (inside turn) _ _ struck.strike.ensures (omega arith), search rules))
+    let (start, loop, turn, struck) : Start × Loop × tie.In-loop-next invariant_loop decreases_loop × tie.After-strike-set invariant_loop decreases_loop = (search, search, search, search) in
+    (going_on _ _ start.requires.0 _ _ loop.loop-next.invariant.0 _ _ loop.loop-next.invariant.1 (inside turn) _ _ struck.strike-set.ensures (omega arith), search rules))
     (λ c.
     let (start, loop) : Start × Loop = (search, search) in
-    omega (arith, counted_long _ _ _ _ start.pre.1, counted_long _ _ _ _ loop.loop.inv.0.exact))
+    omega (arith, counted_long _ _ _ _ start.requires.1, counted_long _ _ _ _ loop.loop-next.invariant.0.exact))
     (λ c.
     let (start, loop) : Start × Loop = (search, search) in
-    (going_done _ _ start.pre.0 _ _ loop.loop.inv.0 _ _ loop.loop.inv.1 (omega arith) (omega arith), search rules)))
+    (going_done _ _ start.requires.0 _ _ loop.loop-next.invariant.0 _ _ loop.loop-next.invariant.1 (omega arith) (omega arith), search rules)))

@@ -10,8 +10,8 @@ use Rattle.pruning.proofs.struck.Statement.{statement}
 use Rattle.pruning.proofs.struck.Tie as tie
 
 -- n counts fit
-fits : (c : tie.After-size) → c.size.result ≤ 31
-fits c = let start : tie.Start = search in omega (arith, size_31 _ start.pre.few)
+fits : (c : tie.After-size-n) → c.size-n.result ≤ 31
+fits c = let start : tie.Start = search in omega (arith, size_31 _ start.requires.few)
 
 pub struck_spec : {M : Type 1} → statement M
 struck_spec =
@@ -21,5 +21,5 @@ struck_spec =
     -- &mut counts[..n]
     (λ c. search fits)
     (λ c. sym (length-take-le _ _ (search fits)))
-    (λ c κs. let at_size : tie.After-size = search in (search rules, length-take-le _ _ (fits at_size) ∙ at_size.size.ensures))
+    (λ c κs. let at_size : tie.After-size-n = search in (search rules, length-take-le _ _ (fits at_size) ∙ at_size.size-n.ensures))
     (λ c. search rules))

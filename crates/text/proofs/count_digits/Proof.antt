@@ -9,10 +9,10 @@ use Rattle.text.proofs.Digits.{digits-one, one_more, at_most_ten}
 use Rattle.text.proofs.count_digits.Statement.{statement}
 use Rattle.text.proofs.count_digits.Tie as tie
 
-abbrev invariant_loop : tie.invariant_loop
+abbrev invariant_loop : tie.invariant-loop-left
 invariant_loop n count₀ left₀ count left = (left ≤ n) × (count + length (digits 10 left) ≡ 1 + length (digits 10 n))
 
-abbrev decreases_loop : tie.decreases_loop
+abbrev decreases_loop : tie.decreases-loop-left
 decreases_loop n count₀ left₀ count left = left
 
 pub count_digits_spec : {M : Type 1} → statement M
@@ -25,6 +25,6 @@ count_digits_spec =
     (λ c. let entry : tie.Start invariant_loop decreases_loop = search in omega (arith, at_most_ten entry.args.n (omega arith)))
     (λ c. omega arith)
     (λ c.
-    let at_loop : tie.At-loop invariant_loop decreases_loop = search in
-    (omega arith, omega (arith, one_more at_loop.loop.left c.loop-test.true (omega arith))))
-    (λ c. let at_loop : tie.At-loop invariant_loop decreases_loop = search in omega (arith, ap length (digits-one at_loop.loop.left (omega arith)))))
+    let at_loop : tie.At-loop-left invariant_loop decreases_loop = search in
+    (omega arith, omega (arith, one_more at_loop.loop-left.left c.loop-left-test.true (omega arith))))
+    (λ c. let at_loop : tie.At-loop-left invariant_loop decreases_loop = search in omega (arith, ap length (digits-one at_loop.loop-left.left (omega arith)))))

@@ -10,10 +10,10 @@ use Rattle.text.proofs.FieldLaws.{Stored, fields_start, fields_end, fields_bad, 
 use Rattle.text.proofs.fields.Statement.{statement}
 use Rattle.text.proofs.fields.Tie as tie
 
-abbrev invariant_loop : tie.invariant_loop
+abbrev invariant_loop : tie.invariant-loop-i
 invariant_loop line out₀ rest₀ i₀ out rest i = Stored (numbers_in (length out₀) (after 9 line)) (length out₀) i out rest
 
-abbrev decreases_loop : tie.decreases_loop
+abbrev decreases_loop : tie.decreases-loop-i
 decreases_loop line out₀ rest₀ i₀ out rest i = length out₀ - i
 
 pub fields_spec : {M : Type 1} → statement M

@@ -21,7 +21,7 @@ next_field_spec =
     -- let e = scan(next, 9);
     (λ c κs. record { one = inl refl })
     -- match numeral(&next[..e])
-    (λ c. let at_scan : tie.After-scan = search in sym (length-take-le _ _ at_scan.scan.ensures.inside))
+    (λ c. let at_scan : tie.After-scan-e = search in sym (length-take-le _ _ at_scan.scan-e.ensures.inside))
     (λ c κs. search rules)
     (λ c. search rules)
     (λ c. search rules)

@@ -7,10 +7,10 @@ use Rattle.lists.proofs.Stores.{Copied, copied_first, copied_next, copied_last}
 use Rattle.text.proofs.put_bytes.Statement.{statement}
 use Rattle.text.proofs.put_bytes.Tie as tie
 
-abbrev invariant_loop : tie.invariant_loop
+abbrev invariant_loop : tie.invariant-loop-i
 invariant_loop bytes output₀ at i₀ output i = Copied bytes output₀ at output i
 
-abbrev decreases_loop : tie.decreases_loop
+abbrev decreases_loop : tie.decreases-loop-i
 decreases_loop bytes output₀ at i₀ output i = length bytes - i
 
 pub put_bytes_spec : {M : Type 1} → statement M

@@ -6,10 +6,10 @@ use Rattle.text.proofs.Digits.{Left, left-first, left-place, left_room, left_nex
 use Rattle.text.proofs.put_digits.Statement.{statement}
 use Rattle.text.proofs.put_digits.Tie as tie
 
-abbrev invariant_loop : tie.invariant_loop
+abbrev invariant_loop : tie.invariant-loop-rest
 invariant_loop n output₀ at end i₀ rest₀ output i rest = Left n at output₀ output i rest
 
-abbrev decreases_loop : tie.decreases_loop
+abbrev decreases_loop : tie.decreases-loop-rest
 decreases_loop n output₀ at end i₀ rest₀ output i rest = rest
 
 pub put_digits_spec : {M : Type 1} → statement M
@@ -22,11 +22,11 @@ put_digits_spec =
     (λ c. omega arith)
     (λ c. left-first _ _ _ _ (omega arith) (omega arith) (omega arith))
     -- i -= 1;
-    (λ c. let at : tie.At-loop invariant_loop decreases_loop = search in omega (arith, left-place at.loop.inv))
+    (λ c. let at : tie.At-loop-rest invariant_loop decreases_loop = search in omega (arith, left-place at.loop-rest.invariant))
     -- output[i] = 48 + (rest % 10) as u8;
     (λ c. omega arith)
     (λ c. omega arith)
-    (λ c. let at : tie.At-loop invariant_loop decreases_loop = search in omega (arith, left-place at.loop.inv))
+    (λ c. let at : tie.At-loop-rest invariant_loop decreases_loop = search in omega (arith, left-place at.loop-rest.invariant))
     -- rest = rest / 10;
     (λ c. omega arith)
     (λ c. search left_next)

@@ -12,7 +12,7 @@ use Rattle.text.proofs.put_field.Tie as tie
 returns : tie.Need-returns
 unfolding field
 returns c =
-    let (entry, done) : tie.Start × tie.After-put-digits = (search, search) in
+    let (entry, done) : tie.Start × tie.After-put_digits = (search, search) in
     written_then (written_one _ _ _ (omega (arith, length-field entry.args.n))) done.put_digits.ensures
 
 pub put_field_spec : {M : Type 1} → statement M
@@ -22,5 +22,5 @@ put_field_spec =
     (λ c. let entry : tie.Start = search in omega (arith, length-field entry.args.n))
     (λ c. search rules)
     (λ c κs. let entry : tie.Start = search in simp length-set (omega (arith, length-field entry.args.n)))
-    (λ c. let done : tie.After-put-digits = search in search (done.put_digits.kept.1.0, rules))
+    (λ c. let done : tie.After-put_digits = search in search (done.put_digits.auto, rules))
     returns)

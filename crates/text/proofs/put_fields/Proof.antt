@@ -8,10 +8,10 @@ use borrow.Author.Rules.{rules}
 use Rattle.text.proofs.put_fields.Statement.{statement}
 use Rattle.text.proofs.put_fields.Tie as tie
 
-abbrev invariant_loop : tie.invariant_loop
+abbrev invariant_loop : tie.invariant-loop-i
 invariant_loop numbers output₀ at end₀ i₀ output end i = Fielded numbers output₀ at output end i
 
-abbrev decreases_loop : tie.decreases_loop
+abbrev decreases_loop : tie.decreases-loop-i
 decreases_loop numbers output₀ at end₀ i₀ output end i = length numbers - i
 
 pub put_fields_spec : {M : Type 1} → statement M
@@ -24,7 +24,7 @@ put_fields_spec =
     -- end = put_field(numbers[i] as u32, output, end);
     (λ c. omega arith)
     (λ c. omega arith)
-    (λ c. let at : tie.At-loop invariant_loop decreases_loop = search in omega (arith, c.shared_slice_known2.given at.loop.i))
+    (λ c. let at : tie.At-loop-i invariant_loop decreases_loop = search in omega (arith, c.shared_slice_known-in-loop-i-1.given at.loop-i.i))
     (λ c κs. search fielded_room)
     -- i += 1;
     (λ c. search rules)

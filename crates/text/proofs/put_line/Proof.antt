@@ -5,7 +5,7 @@ use borrow.Author.Rules.{rules}
 use Rattle.text.proofs.put_line.Statement.{statement}
 use Rattle.text.proofs.put_line.Tie as tie
 
-slice_write_output : tie.Need-slice-write-output
+slice_write_output : tie.Need-bounds-output-end
 slice_write_output c = search rules
 
 pub put_line_spec : {M : Type 1} → statement M
@@ -19,6 +19,6 @@ put_line_spec =
     slice_write_output
     (λ c. search rules)
     (λ c.
-    let (at_bytes, at_first, at_second) : tie.After-put-bytes × tie.After-put-field × tie.After-put-field2 = (search, search, search) in
-    search (at_second.put_field2.kept.1.0, at_first.put_field.kept.1.0, at_bytes.put_bytes.kept.1.0, rules))
+    let (at_bytes, at_first, at_second) : tie.After-put_bytes-first × tie.After-put_field-second × tie.After-put_field-end = (search, search, search) in
+    search (at_second.put_field-end.auto, at_first.put_field-second.auto, at_bytes.put_bytes-first.auto, rules))
     (λ c. let fits = slice_write_output c in search written-line))

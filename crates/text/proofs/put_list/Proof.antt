@@ -5,7 +5,7 @@ use borrow.Author.Rules.{rules}
 use Rattle.text.proofs.put_list.Statement.{statement}
 use Rattle.text.proofs.put_list.Tie as tie
 
-slice_write_output : tie.Need-slice-write-output
+slice_write_output : tie.Need-bounds-output-end
 slice_write_output c = search rules
 
 pub put_list_spec : {M : Type 1} → statement M
@@ -19,6 +19,6 @@ put_list_spec =
     slice_write_output
     (λ c. search rules)
     (λ c.
-    let (at_bytes, at_field, at_fields) : tie.After-put-bytes × tie.After-put-field × tie.After-put-fields = (search, search, search) in
-    search (at_fields.put_fields.kept.1.0, at_field.put_field.kept.1.0, at_bytes.put_bytes.kept.1.0, rules))
+    let (at_bytes, at_field, at_fields) : tie.After-put_bytes-head × tie.After-put_field-tail × tie.After-put_fields-end = (search, search, search) in
+    search (at_fields.put_fields-end.auto, at_field.put_field-tail.auto, at_bytes.put_bytes-head.auto, rules))
     (λ c. let fits = slice_write_output c in search written_list))

@@ -5,7 +5,7 @@ use borrow.Author.Rules.{rules}
 use Rattle.text.proofs.put_numbers.Statement.{statement}
 use Rattle.text.proofs.put_numbers.Tie as tie
 
-slice_write_output : tie.Need-slice-write-output
+slice_write_output : tie.Need-bounds-output-last
 slice_write_output c = search rules
 
 pub put_numbers_spec : {M : Type 1} → statement M
@@ -18,6 +18,6 @@ put_numbers_spec =
     slice_write_output
     (λ c. search rules)
     (λ c.
-    let (at_digits, at_fields) : tie.After-put-digits × tie.After-put-fields = (search, search) in
-    search (at_fields.put_fields.kept.1.0, at_digits.put_digits.kept.1.0, rules))
+    let (at_digits, at_fields) : tie.After-put_digits-rest × tie.After-put_fields-last = (search, search) in
+    search (at_fields.put_fields-last.auto, at_digits.put_digits-rest.auto, rules))
     (λ c. let fits = slice_write_output c in search written_numbers))

@@ -10,10 +10,10 @@ use Rattle.text.proofs.Numerals.{Valued, valued_none, valued_next, digits_bad, d
 use Rattle.text.proofs.read_digits.Statement.{statement}
 use Rattle.text.proofs.read_digits.Tie as tie
 
-abbrev invariant_loop : tie.invariant_loop
+abbrev invariant_loop : tie.invariant-loop-i
 invariant_loop field value₀ i₀ value i = Valued field i value
 
-abbrev decreases_loop : tie.decreases_loop
+abbrev decreases_loop : tie.decreases-loop-i
 decreases_loop field value₀ i₀ value i = length field - i
 
 pub read_digits_spec : {M : Type 1} → statement M
@@ -29,13 +29,13 @@ read_digits_spec =
     (λ c. search (fails, digits_bad))
     -- value = 10 * value + (b - 48) as u32;
     (λ c. omega arith)
-    (λ c. let b : tie.After-is-digit invariant_loop decreases_loop = search in within_low 48 57 _ (passes _ _ b.is_digit.ensures c.if1.false))
+    (λ c. let b : tie.After-is_digit invariant_loop decreases_loop = search in within_low 48 57 _ (passes _ _ b.is_digit.ensures c.if-not-is_digit.false-raw))
     (λ c.
-    let (at_loop, b) : tie.At-loop invariant_loop decreases_loop × tie.After-shared-slice-known2 invariant_loop decreases_loop = (search, search) in
-    omega (arith, b.shared_slice_known2.given at_loop.loop.i))
+    let (at_loop, b) : tie.At-loop-i invariant_loop decreases_loop × tie.After-shared_slice_known-in-loop-i-1 invariant_loop decreases_loop = (search, search) in
+    omega (arith, b.shared_slice_known-in-loop-i-1.given at_loop.loop-i.i))
     (λ c.
-    let (at_loop, b) : tie.At-loop invariant_loop decreases_loop × tie.After-shared-slice-known2 invariant_loop decreases_loop = (search, search) in
-    omega (arith, b.shared_slice_known2.given at_loop.loop.i))
+    let (at_loop, b) : tie.At-loop-i invariant_loop decreases_loop × tie.After-shared_slice_known-in-loop-i-1 invariant_loop decreases_loop = (search, search) in
+    omega (arith, b.shared_slice_known-in-loop-i-1.given at_loop.loop-i.i))
     -- if 65535 < value { return Parsed::Nothing; }
     (λ c. search (passes, digits-over))
     -- i += 1;

@@ -8,10 +8,10 @@ use borrow.Author.Rules.{rules}
 use Rattle.text.proofs.scan.Statement.{statement}
 use Rattle.text.proofs.scan.Tie as tie
 
-abbrev invariant_loop : tie.invariant_loop
+abbrev invariant_loop : tie.invariant-loop-i
 invariant_loop bytes separator i₀ i = Passed separator bytes i
 
-abbrev decreases_loop : tie.decreases_loop
+abbrev decreases_loop : tie.decreases-loop-i
 decreases_loop bytes separator i₀ i = length bytes - i
 
 pub scan_spec : {M : Type 1} → statement M
