@@ -22,17 +22,17 @@ use Rattle.dealing.proofs.deal.Statement.{statement}
 use Rattle.dealing.proofs.deal.Tie as tie
 
 -- what the checks of t and d show
-threshold : (c : tie.Else1) → let entry : tie.Start = search in is_threshold entry.args.t ≡ true
+threshold : (c : tie.Else-not-threshold) → let entry : tie.Start = search in is_threshold entry.args.t ≡ true
 threshold c = search passes
 
-secret_length : (c : tie.Else2) → let entry : tie.Start = search in is_length (length entry.args.secret.now) ≡ true
+secret_length : (c : tie.Else-not-within) → let entry : tie.Start = search in is_length (length entry.args.secret.now) ≡ true
 secret_length c = search passes
 
-day_ok : (c : tie.Else3) → let entry : tie.Start = search in is_day entry.args.day ≡ true
+day_ok : (c : tie.Else-not-is_day) → let entry : tie.Start = search in is_day entry.args.day ≡ true
 day_ok c = search passes
 
-range : (c : tie.Else2) → let entry : tie.Start = search in InRange entry.args.t (length entry.args.secret.now)
-range c = let e : tie.Else1 = search in in_range _ _ (threshold e) (secret_length c)
+range : (c : tie.Else-not-within) → let entry : tie.Start = search in InRange entry.args.t (length entry.args.secret.now)
+range c = let e : tie.Else-not-threshold = search in in_range _ _ (threshold e) (secret_length c)
 
 -- the shape is a station, and has the lengths of the definition
 module _ (t d : ℕ) (s : Shape) (e : s ≡ shape_of t d) where
@@ -50,21 +50,21 @@ module _ (t d : ℕ) (s : Shape) (e : s ≡ shape_of t d) where
       → shares ≡ dealt_shares (own_points t) t day secret random
   at_own day secret random shares es = es ∙ ap (λ (x : Shape). dealt_shares (own_points x.t) x.t day secret random) e
 
-station : (c : tie.After-shape-of) → Station c.shape_of.result
-station c = let e : tie.Else2 = search in station_of _ _ _ (range e) c.shape_of.ensures
+station : (c : tie.After-shape_of-s) → Station c.shape_of-s.result
+station c = let e : tie.Else-not-within = search in station_of _ _ _ (range e) c.shape_of-s.ensures
 
-small : (c : tie.After-shape-of)
+small : (c : tie.After-shape_of-s)
     → let entry : tie.Start = search in
-    (entry.args.t * length entry.args.secret.now ≤ 960) × (c.shape_of.result.n * c.shape_of.result.n ≤ 961)
-small c = let e : tie.Else2 = search in (coefficients_le _ _ (range e), row_le _ (station c) _ (le_refl _))
+    (entry.args.t * length entry.args.secret.now ≤ 960) × (c.shape_of-s.result.n * c.shape_of-s.result.n ≤ 961)
+small c = let e : tie.Else-not-within = search in (coefficients_le _ _ (range e), row_le _ (station c) _ (le_refl _))
 
-random_length_lem : (c : tie.Else4) → let entry : tie.Start = search in length entry.args.random.now ≡ random_length entry.args.t (length entry.args.secret.now)
-random_length_lem c = let made : tie.After-shape-of = search in c.if4.false ∙ random_is _ _ _ made.shape_of.ensures
+random_length_lem : (c : tie.Else-random-t) → let entry : tie.Start = search in length entry.args.random.now ≡ random_length entry.args.t (length entry.args.secret.now)
+random_length_lem c = let made : tie.After-shape_of-s = search in c.if-random-t.false ∙ random_is _ _ _ made.shape_of-s.ensures
 
-buffer_length : (c : tie.Else5)
+buffer_length : (c : tie.Else-shares-s)
     → let entry : tie.Start = search in
     length entry.args.shares.now ≡ size entry.args.t * width entry.args.t (length entry.args.secret.now)
-buffer_length c = let made : tie.After-shape-of = search in c.if5.false ∙ shares_are _ _ _ made.shape_of.ensures
+buffer_length c = let made : tie.After-shape_of-s = search in c.if-shares-s.false ∙ shares_are _ _ _ made.shape_of-s.ensures
 
 pub deal_spec : {M : Type 1} → statement M
 deal_spec =
@@ -80,19 +80,19 @@ deal_spec =
     -- let s = shares::shape_of(t, d);
     (λ c κs. search range)
     -- 3
-    (λ c. let made : tie.After-shape-of = search in omega (arith, small made))
-    (λ c. let made : tie.After-shape-of = search in omega (arith, small made))
-    (λ c. let made : tie.After-shape-of = search in omega (arith, small made))
-    (λ c. let made : tie.After-shape-of = search in omega (arith, small made))
+    (λ c. let made : tie.After-shape_of-s = search in omega (arith, small made))
+    (λ c. let made : tie.After-shape_of-s = search in omega (arith, small made))
+    (λ c. let made : tie.After-shape_of-s = search in omega (arith, small made))
+    (λ c. let made : tie.After-shape_of-s = search in omega (arith, small made))
     (λ c.
-    let (e₁, e₂, e, made) : tie.Else1 × tie.Else2 × tie.Else3 × tie.After-shape-of = (search, search, search, search) in
-    refused_3 _ _ _ _ _ (threshold e₁) (secret_length e₂) (day_ok e) (λ g. c.if4.true (g ∙ sym (random_is _ _ _ made.shape_of.ensures))))
+    let (e₁, e₂, e, made) : tie.Else-not-threshold × tie.Else-not-within × tie.Else-not-is_day × tie.After-shape_of-s = (search, search, search, search) in
+    refused_3 _ _ _ _ _ (threshold e₁) (secret_length e₂) (day_ok e) (λ g. c.if-random-t.true (g ∙ sym (random_is _ _ _ made.shape_of-s.ensures))))
     -- 4
-    (λ c. let made : tie.After-shape-of = search in omega (arith, station made))
+    (λ c. let made : tie.After-shape_of-s = search in omega (arith, station made))
     (λ c.
-    let (e₁, e₂, e, made, e₃) : tie.Else1 × tie.Else2 × tie.Else3 × tie.After-shape-of × tie.Else4 = (search, search, search, search, search) in
+    let (e₁, e₂, e, made, e₃) : tie.Else-not-threshold × tie.Else-not-within × tie.Else-not-is_day × tie.After-shape_of-s × tie.Else-random-t = (search, search, search, search, search) in
     refused_4 _ _ _ _ _ (threshold e₁) (secret_length e₂) (day_ok e) (random_length_lem e₃)
-    (λ g. c.if5.true (g ∙ sym (shares_are _ _ _ made.shape_of.ensures))))
+    (λ g. c.if-shares-s.true (g ∙ sym (shares_are _ _ _ made.shape_of-s.ensures))))
     -- 5, 6
     (λ c κs. tt)
     (λ c. search (fails, refused_5, threshold, secret_length, day_ok, random_length_lem, buffer_length))
@@ -100,7 +100,7 @@ deal_spec =
     (λ c. search (fails, passes, refused_6, threshold, secret_length, day_ok, random_length_lem, buffer_length))
     -- fill(s, day, secret, random, shares);
     (λ c κs.
-    let (made, e₃, e₄) : tie.After-shape-of × tie.Else4 × tie.Else5 = (search, search, search) in
-    (record { station = station made; long = e₄.if5.left }, supplied _ _ _ made.shape_of.ensures _ _ refl (random_length_lem e₃)))
+    let (made, e₃, e₄) : tie.After-shape_of-s × tie.Else-random-t × tie.Else-shares-s = (search, search, search) in
+    (record { station = station made; long = e₄.if-shares-s.false }, supplied _ _ _ made.shape_of-s.ensures _ _ refl (random_length_lem e₃)))
     (λ c. search rules)
     (λ c. search (passes, dealt, threshold, secret_length, day_ok, random_length_lem, buffer_length, at_own)))

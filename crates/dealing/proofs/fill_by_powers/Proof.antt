@@ -46,16 +46,16 @@ module _ (t : ℕ) (secret random : List ℕ) (x : ℕ) (shares₀ : List ℕ) (
   unfolding words_at
   last s i place count there h = stored_at s i place count at (words_at t secret random x) shares₀ shares there (filled_last _ _ _ _ _ _ h turn.filled)
 
-abbrev invariant_loop : tie.invariant_loop
+abbrev invariant_loop : tie.invariant-loop-k
 invariant_loop secret random x powers shares₀ i at t from₀ k₀ shares from k = Turn t secret random x shares₀ at shares from k
 
-abbrev decreases_loop : tie.decreases_loop
+abbrev decreases_loop : tie.decreases-loop-k
 decreases_loop secret random x powers shares₀ i at t from₀ k₀ shares from k = length secret - k
 
 -- word k's coefficients are among the random words
-inside : (c : tie.In-loop invariant_loop decreases_loop)
-    → let (entry, at_loop) : tie.Start invariant_loop decreases_loop × tie.At-loop invariant_loop decreases_loop = (search, search) in
-    at_loop.loop.from + entry.args.s.t ≤ length entry.args.random.now
+inside : (c : tie.In-loop-k invariant_loop decreases_loop)
+    → let (entry, at_loop) : tie.Start invariant_loop decreases_loop × tie.At-loop-k invariant_loop decreases_loop = (search, search) in
+    at_loop.loop-k.from + entry.args.s.t ≤ length entry.args.random.now
 inside c = search coefficients
 
 pub fill_by_powers_spec : {M : Type 1} → statement M
@@ -65,21 +65,21 @@ fill_by_powers_spec =
     invariant_loop
     decreases_loop
     -- polynomial::fill_powers(x, powers)
-    (λ c κs. let entry : tie.Start invariant_loop decreases_loop = search in omega (arith, entry.pre.0.station.range.t_low))
+    (λ c κs. let entry : tie.Start invariant_loop decreases_loop = search in omega (arith, entry.requires.0.station.range.t_low))
     (λ c κs. search rules)
     (λ c. search first)
     -- polynomial::evaluate_by_powers(secret[k], &random[from..to], powers)
-    (λ c. let (entry, in_loop) : tie.Start invariant_loop decreases_loop × tie.In-loop invariant_loop decreases_loop = (search, search) in omega (arith, entry.good, inside in_loop))
+    (λ c. let (entry, in_loop) : tie.Start invariant_loop decreases_loop × tie.In-loop-k invariant_loop decreases_loop = (search, search) in omega (arith, entry.well_formed, inside in_loop))
     (λ c. omega arith)
     (λ c. omega arith)
-    (λ c. let (entry, in_loop) : tie.Start invariant_loop decreases_loop × tie.In-loop invariant_loop decreases_loop = (search, search) in omega (arith, entry.good, inside in_loop))
-    (λ c. let (entry, in_loop) : tie.Start invariant_loop decreases_loop × tie.In-loop invariant_loop decreases_loop = (search, search) in omega (arith, entry.good, inside in_loop))
-    (λ c. let (entry, in_loop) : tie.Start invariant_loop decreases_loop × tie.In-loop invariant_loop decreases_loop = (search, search) in omega (arith, entry.good, inside in_loop))
-    (λ c. let (entry, in_loop) : tie.Start invariant_loop decreases_loop × tie.In-loop invariant_loop decreases_loop = (search, search) in omega (arith, entry.good, inside in_loop))
+    (λ c. let (entry, in_loop) : tie.Start invariant_loop decreases_loop × tie.In-loop-k invariant_loop decreases_loop = (search, search) in omega (arith, entry.well_formed, inside in_loop))
+    (λ c. let (entry, in_loop) : tie.Start invariant_loop decreases_loop × tie.In-loop-k invariant_loop decreases_loop = (search, search) in omega (arith, entry.well_formed, inside in_loop))
+    (λ c. let (entry, in_loop) : tie.Start invariant_loop decreases_loop × tie.In-loop-k invariant_loop decreases_loop = (search, search) in omega (arith, entry.well_formed, inside in_loop))
+    (λ c. let (entry, in_loop) : tie.Start invariant_loop decreases_loop × tie.In-loop-k invariant_loop decreases_loop = (search, search) in omega (arith, entry.well_formed, inside in_loop))
     (λ c κs.
-    let (entry, in_loop, filled) : tie.Start invariant_loop decreases_loop × tie.In-loop invariant_loop decreases_loop × tie.After-fill-powers invariant_loop decreases_loop = (search, search, search) in
-    let high : entry.args.s.t ≤ 15 = entry.pre.0.station.range.t_high in
-    simp (length-take, length-drop) (omega (arith, inside in_loop, filled.fill_powers.kept)))
+    let (entry, in_loop, filled) : tie.Start invariant_loop decreases_loop × tie.In-loop-k invariant_loop decreases_loop × tie.After-fill_powers invariant_loop decreases_loop = (search, search, search) in
+    let high : entry.args.s.t ≤ 15 = entry.requires.0.station.range.t_high in
+    simp (length-take, length-drop) (omega (arith, inside in_loop, filled.fill_powers.auto.powers)))
     -- shares[at + k] = ..
     (λ c. omega arith)
     (λ c. omega arith)

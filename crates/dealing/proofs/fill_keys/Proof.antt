@@ -43,10 +43,10 @@ module _ (s : Shape) (random shares₀ : List ℕ) (i at : ℕ) (shares : List �
       (joined_last s.n 2 (key s random i) shares₀ at shares j h turn
       ∙ ap (λ (n : ℕ). sets shares₀ at (concat (tab n (key s random i)))) st.members)
 
-abbrev invariant_loop : tie.invariant_loop
+abbrev invariant_loop : tie.invariant-loop-j
 invariant_loop s random shares₀ i at n j₀ shares j = Turn s random shares₀ i at shares j
 
-abbrev decreases_loop : tie.decreases_loop
+abbrev decreases_loop : tie.decreases-loop-j
 decreases_loop s random shares₀ i at n j₀ shares j = n - j
 
 pub fill_keys_spec : {M : Type 1} → statement M

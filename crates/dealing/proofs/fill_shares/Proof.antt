@@ -47,10 +47,10 @@ module _ (s : Shape) (day : ℕ) (xs secret random shares₀ shares : List ℕ) 
       ∙ sets_whole shares₀ (concat (tab s.n share)) (length-concat s.n s.width share (λ j p. long j) ∙ sym room.long)
       ∙ ap (λ (n : ℕ). concat (tab n share)) room.station.members
 
-abbrev invariant_loop : tie.invariant_loop
+abbrev invariant_loop : tie.invariant-loop-i
 invariant_loop s day points secret random shares₀ n i₀ shares i = Turn s day points secret random shares₀ shares i
 
-abbrev decreases_loop : tie.decreases_loop
+abbrev decreases_loop : tie.decreases-loop-i
 decreases_loop s day points secret random shares₀ n i₀ shares i = n - i
 
 pub fill_shares_spec : {M : Type 1} → statement M

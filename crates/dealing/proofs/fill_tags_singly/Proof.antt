@@ -44,10 +44,10 @@ module _ (s : Shape) (day : ℕ) (random shares₀ : List ℕ) (i at : ℕ) (sha
       (filled_last s.n _ shares₀ at shares j q turn
       ∙ ap (λ (n : ℕ). sets shares₀ at (tab n (tag_of s.t s.d day random i (share_words s.t s.d shares₀ i)))) room.station.members)
 
-abbrev invariant_loop : tie.invariant_loop
+abbrev invariant_loop : tie.invariant-loop-j
 invariant_loop s day random shares₀ i words end at n j₀ shares j = Turn s day random shares₀ i at shares j
 
-abbrev decreases_loop : tie.decreases_loop
+abbrev decreases_loop : tie.decreases-loop-j
 decreases_loop s day random shares₀ i words end at n j₀ shares j = n - j
 
 pub fill_tags_singly_spec : {M : Type 1} → statement M

@@ -48,5 +48,5 @@ fill_tags_with_spec =
     (λ c. search rules)
     (λ c. search rules)
     (λ c.
-    let (start, there, made, now) : tie.Start × tie.After-words-at × tie.After-make-tags × tie.After-store-tags = (search, search, search, search) in
-    tags_stored _ _ _ _ _ _ _ _ start.pre.0 there.words_at_lem.ensures made.make_tags.ensures now.store_tags.ensures))
+    let (start, there, made, now) : tie.Start × tie.After-words_at-words × tie.After-make_tags × tie.After-store_tags = (search, search, search, search) in
+    tags_stored _ _ _ _ _ _ _ _ start.requires.0 there.words_at-words.ensures made.make_tags.ensures now.store_tags.ensures))

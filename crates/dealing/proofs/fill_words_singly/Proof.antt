@@ -45,16 +45,16 @@ module _ (t : ℕ) (secret random : List ℕ) (x : ℕ) (shares₀ : List ℕ) (
   unfolding words_at
   last s i place count there h = stored_at s i place count at (words_at t secret random x) shares₀ shares there (filled_last _ _ _ _ _ _ h turn.filled)
 
-abbrev invariant_loop : tie.invariant_loop
+abbrev invariant_loop : tie.invariant-loop-k
 invariant_loop secret random x shares₀ i at t from₀ k₀ shares from k = Turn t secret random x shares₀ at shares from k
 
-abbrev decreases_loop : tie.decreases_loop
+abbrev decreases_loop : tie.decreases-loop-k
 decreases_loop secret random x shares₀ i at t from₀ k₀ shares from k = length secret - k
 
 -- word k's coefficients are among the random words
-inside : (c : tie.In-loop invariant_loop decreases_loop)
-    → let (entry, at_loop) : tie.Start invariant_loop decreases_loop × tie.At-loop invariant_loop decreases_loop = (search, search) in
-    at_loop.loop.from + entry.args.s.t ≤ length entry.args.random.now
+inside : (c : tie.In-loop-k invariant_loop decreases_loop)
+    → let (entry, at_loop) : tie.Start invariant_loop decreases_loop × tie.At-loop-k invariant_loop decreases_loop = (search, search) in
+    at_loop.loop-k.from + entry.args.s.t ≤ length entry.args.random.now
 inside c = search coefficients
 
 pub fill_words_singly_spec : {M : Type 1} → statement M
@@ -66,13 +66,13 @@ fill_words_singly_spec =
     (λ c κs. search rules)
     (λ c. search first)
     -- value_at(secret[k], &random[from..to], x)
-    (λ c. let in_loop : tie.In-loop invariant_loop decreases_loop = search in omega (arith, inside in_loop))
+    (λ c. let in_loop : tie.In-loop-k invariant_loop decreases_loop = search in omega (arith, inside in_loop))
     (λ c. omega arith)
     (λ c. omega arith)
-    (λ c. let in_loop : tie.In-loop invariant_loop decreases_loop = search in omega (arith, inside in_loop))
-    (λ c. let in_loop : tie.In-loop invariant_loop decreases_loop = search in omega (arith, inside in_loop))
-    (λ c. let in_loop : tie.In-loop invariant_loop decreases_loop = search in omega (arith, inside in_loop))
-    (λ c. let in_loop : tie.In-loop invariant_loop decreases_loop = search in omega (arith, inside in_loop))
+    (λ c. let in_loop : tie.In-loop-k invariant_loop decreases_loop = search in omega (arith, inside in_loop))
+    (λ c. let in_loop : tie.In-loop-k invariant_loop decreases_loop = search in omega (arith, inside in_loop))
+    (λ c. let in_loop : tie.In-loop-k invariant_loop decreases_loop = search in omega (arith, inside in_loop))
+    (λ c. let in_loop : tie.In-loop-k invariant_loop decreases_loop = search in omega (arith, inside in_loop))
     (λ c κs. tt)
     -- shares[at + k] = ..
     (λ c. omega arith)

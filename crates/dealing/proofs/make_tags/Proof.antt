@@ -42,5 +42,5 @@ make_tags_spec =
     (λ c κs. search rules)
     (λ c. search rules)
     (λ c.
-    let (start, keys, tags) : tie.Start × tie.After-gather-keys × tie.After-tags-with-first = (search, search, search) in
-    under _ _ _ _ _ _ _ _ start.pre.0 keys.gather_keys.ensures tags.tags_with_first.ensures))
+    let (start, keys, tags) : tie.Start × tie.After-gather_keys × tie.After-tags_with_first = (search, search, search) in
+    under _ _ _ _ _ _ _ _ start.requires.0 keys.gather_keys.ensures tags.tags_with_first.ensures))

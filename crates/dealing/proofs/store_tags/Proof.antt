@@ -32,14 +32,14 @@ last s tags shares₀ at shares j i t done there =
     stored_at s i (tag_place s.d 0) s.n at (tab s.n (λ k. get_or tags k 0)) shares₀ shares there
     (filled_last s.n (λ k. get_or tags k 0) shares₀ at shares j done t.filled)
 
-abbrev invariant_loop : tie.invariant_loop
+abbrev invariant_loop : tie.invariant-loop-j
 invariant_loop tags shares₀ i at n j₀ shares j = Turn n tags shares₀ at shares j
 
-abbrev decreases_loop : tie.decreases_loop
+abbrev decreases_loop : tie.decreases-loop-j
 decreases_loop tags shares₀ i at n j₀ shares j = n - j
 
 abbrev Loop : Type 0
-Loop = tie.At-loop invariant_loop decreases_loop
+Loop = tie.At-loop-j invariant_loop decreases_loop
 
 pub store_tags_spec : {M : Type 1} → statement M
 store_tags_spec =
@@ -53,14 +53,14 @@ store_tags_spec =
     -- shares[at + j] = tags[j]
     (λ c. omega arith)
     (λ c. omega arith)
-    (λ c. let loop : Loop = search in omega (arith, loop.loop.inv.filled.long))
-    (λ c. let loop : Loop = search in omega (arith, loop.loop.inv.filled.long))
-    (λ c. let loop : Loop = search in omega (arith, loop.loop.inv.filled.long))
+    (λ c. let loop : Loop = search in omega (arith, loop.loop-j.invariant.filled.long))
+    (λ c. let loop : Loop = search in omega (arith, loop.loop-j.invariant.filled.long))
+    (λ c. let loop : Loop = search in omega (arith, loop.loop-j.invariant.filled.long))
     -- j = j + 1
     (λ c. omega arith)
     (λ c. omega arith)
     (λ c. search next)
-    (λ c. let loop : Loop = search in omega (arith, loop.loop.inv.filled.long))
+    (λ c. let loop : Loop = search in omega (arith, loop.loop-j.invariant.filled.long))
     (λ c.
     let (start, loop) : tie.Start invariant_loop decreases_loop × Loop = (search, search) in
-    last start.args.s _ _ _ _ _ start.args.i loop.loop.inv (omega arith) search))
+    last start.args.s _ _ _ _ _ start.args.i loop.loop-j.invariant (omega arith) search))

@@ -8,7 +8,7 @@ use Rattle.decoding.proofs.decode_near.Statement.{statement}
 use Rattle.decoding.proofs.decode_near.Tie as tie
 
 -- the threshold is small
-small : (c : tie.Else1) → let entry : tie.Start = search in entry.args.t ≤ 15
+small : (c : tie.Else-not-threshold) → let entry : tie.Start = search in entry.args.t ≤ 15
 small c = search t_most
 
 pub decode_near_spec : {M : Type 1} → statement M
@@ -26,7 +26,7 @@ decode_near_spec =
     (λ c. search rules)
     (λ c. search refused_11)
     -- if coefficients.len() != t + 1 {
-    (λ c. let passed : tie.Else1 = search in omega (arith, small passed))
+    (λ c. let passed : tie.Else-not-threshold = search in omega (arith, small passed))
     (λ c κs. search rules)
     (λ c. search rules)
     (λ c. search refused_19)

@@ -17,5 +17,5 @@ enough_agree_spec =
     (λ c κs. search rules)
     (λ c κs. search rules)
     (λ c.
-    let (entry, at_card, at_need) : tie.Start × tie.After-card × tie.After-need = (search, search, search) in
-    unfold enough_agree in ap₂ leb (need_is _ _ _ _ entry.pre.0 entry.pre.1 at_card.card.ensures at_need.need.ensures) c.agreeing.ensures))
+    let (entry, at_card, at_need) : tie.Start × tie.After-card × tie.After-need-least = (search, search, search) in
+    unfold enough_agree in ap₂ leb (need_is _ _ _ _ entry.requires.0 entry.requires.1 at_card.card.ensures at_need.need-least.ensures) c.agreeing.ensures))

@@ -13,5 +13,5 @@ field_word_spec =
     (λ c. search not_judged)
     (λ c κs. search rules)
     (λ c.
-    let (at_has, at_if1) : tie.After-has × tie.Else1 = (search, search) in
-    search (judged, at_has.has.ensures, at_if1.if1.left, c.is_field_word.ensures)))
+    let (at_has, at_if1) : tie.After-has × tie.Else-not-has = (search, search) in
+    search (judged, at_has.has.ensures, at_if1.if-not-has.false-raw, c.is_field_word.ensures)))

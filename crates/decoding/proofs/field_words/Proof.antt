@@ -9,10 +9,10 @@ use Rattle.decoding.proofs.Turns.{Passing, passing_first, passing_next, passing_
 use Rattle.decoding.proofs.field_words.Statement.{statement}
 use Rattle.decoding.proofs.field_words.Tie as tie
 
-abbrev invariant_loop : tie.invariant_loop
+abbrev invariant_loop : tie.invariant-loop-i
 invariant_loop values set i₀ i = Passing (judged_at values set) (length values) i
 
-abbrev decreases_loop : tie.decreases_loop
+abbrev decreases_loop : tie.decreases-loop-i
 decreases_loop values set i₀ i = length values - i
 
 pub field_words_spec : {M : Type 1} → statement M

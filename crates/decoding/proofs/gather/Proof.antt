@@ -8,10 +8,10 @@ use Rattle.decoding.proofs.Turns.{at_most_one, Gathering, gathering_first, gathe
 use Rattle.decoding.proofs.gather.Statement.{statement}
 use Rattle.decoding.proofs.gather.Tie as tie
 
-abbrev invariant_loop : tie.invariant_loop
+abbrev invariant_loop : tie.invariant-loop-i
 invariant_loop t points values set e chosen₀ kept₀ m₀ i₀ chosen kept m i = Gathering points t values set e chosen kept m i
 
-abbrev decreases_loop : tie.decreases_loop
+abbrev decreases_loop : tie.decreases-loop-i
 decreases_loop t points values set e chosen₀ kept₀ m₀ i₀ chosen kept m i = length values - i
 
 pub gather_spec : {M : Type 1} → statement M
@@ -37,7 +37,7 @@ gather_spec =
     (λ c. search rules)
     -- m = m + sound_one(points, set, e, i);
     (λ c κs. search rules)
-    (λ c. let one : c.sound_one.result ≤ 1 = search at_most_one in search rules)
+    (λ c. let one : c.sound_one-m.result ≤ 1 = search at_most_one in search rules)
     -- i = i + 1;
     (λ c. omega arith)
     (λ c. omega arith)

@@ -30,7 +30,7 @@ judge_spec =
     (λ c. search rules)
     (λ c. search rules)
     (λ c.
-    let (entry, at_gather, at_if1, at_poly, at_enough) : tie.Start × tie.After-gather × tie.Else1 × tie.After-interpolate × tie.After-enough-agree
+    let (entry, at_gather, at_if1, at_poly, at_enough) : tie.Start × tie.After-gather × tie.Else-gather-t × tie.After-interpolate × tie.After-enough_agree
     = (search, search, search, search, search) in
-    judge_found at_gather.gather.ensures entry.pre.0.0 entry.pre.0.1 entry.pre.1 at_if1.if1.left at_poly.interpolate.ensures
-    at_enough.enough_agree.ensures c.if2.false))
+    judge_found at_gather.gather.ensures entry.requires.0.0 entry.requires.0.1 entry.requires.1 at_if1.if-gather-t.false at_poly.interpolate.ensures
+    at_enough.enough_agree.ensures c.if-not-enough_agree.false-raw))

@@ -10,7 +10,7 @@ solve_spec =
     (tie.spec
     (λ c κs. search rules)
     (λ c. search rules)
-    (λ c. let at_guessed : tie.After-guessed = search in search (at_guessed.guessed.ensures.answer, c.if1.true, rules))
+    (λ c. let at_guessed : tie.After-guessed = search in search (at_guessed.guessed.ensures.answer, c.if-guessed.true, rules))
     (λ c κs. search rules)
     (λ c. search rules)
     (λ c. search rules))

@@ -21,5 +21,5 @@ solve_own_spec =
     (λ c. search rules)
     (λ c. search rules)
     (λ c.
-    let (entry, at_size, at_own, at_solve) : tie.Start × tie.After-size × tie.After-own-points × tie.After-solve = (search, search, search, search) in
-    solved_own _ _ _ entry.pre.0 at_size.size.ensures entry.pre.3 _ at_own.own_points.ensures entry.args.values.now _ _ at_solve.solve.ensures))
+    let (entry, at_size, at_own, at_solve) : tie.Start × tie.After-size-n × tie.After-own_points × tie.After-solve = (search, search, search, search) in
+    solved_own _ _ _ entry.requires.0 at_size.size-n.ensures entry.requires.3 _ at_own.own_points.ensures entry.args.values.now _ _ at_solve.solve.ensures))

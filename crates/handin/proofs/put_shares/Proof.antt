@@ -10,10 +10,10 @@ use borrow.Author.Rules.{rules}
 use Rattle.handin.proofs.put_shares.Statement.{statement}
 use Rattle.handin.proofs.put_shares.Tie as tie
 
-abbrev invariant_loop : tie.invariant_loop
+abbrev invariant_loop : tie.invariant-loop-i
 invariant_loop s present shares text₀ at end₀ i₀ text end i = Pieces s.n (member_line s.t s.d present shares) text₀ at text end i
 
-abbrev decreases_loop : tie.decreases_loop
+abbrev decreases_loop : tie.decreases-loop-i
 decreases_loop s present shares text₀ at end₀ i₀ text end i = s.n - i
 
 -- the places of the code that the answers below name
@@ -21,10 +21,10 @@ abbrev Start : Type 0
 Start = tie.Start invariant_loop decreases_loop
 
 abbrev Loop : Type 0
-Loop = tie.At-loop invariant_loop decreases_loop
+Loop = tie.At-loop-i invariant_loop decreases_loop
 
 abbrev Turn : Type 0
-Turn = tie.Then1 invariant_loop decreases_loop
+Turn = tie.In-loop-i invariant_loop decreases_loop
 
 pub put_shares_spec : {M : Type 1} → statement M
 unfolding share_lines
@@ -37,7 +37,7 @@ put_shares_spec =
     -- end = put_share(s, present, i, shares, text, end);
     (λ c κs.
     let (start, loop, turn) : Start × Loop × Turn = (search, search, search) in
-    (search rules, (search rules, pieces_room loop.loop.inv turn.if1.taken start.pre.1)))
+    (search rules, (search rules, pieces_room loop.loop-i.invariant turn.loop-i-test.true start.requires.1)))
     -- i += 1;
     (λ c. search rules)
     (λ c. search rules)

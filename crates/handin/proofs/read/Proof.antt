@@ -24,7 +24,7 @@ read_spec =
     (λ c κs. search rules)
     (λ c κs.
     let zeros : tie.After-fill = search in
-    (search rules, zeros.fill.ensures ∙ ap (λ (k : ℕ). replicate k 0) (sym zeros.fill.kept.0)))
+    (search rules, zeros.fill.ensures ∙ ap (λ (k : ℕ). replicate k 0) (sym zeros.fill.auto.buffer)))
     (λ c. search rules)
     (λ c. search rules)
     -- Outcome::Refused(k) => refuse(words, k)

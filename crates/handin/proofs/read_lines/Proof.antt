@@ -18,7 +18,7 @@ read_lines_spec =
     (λ c κs. record { one = inr (inl refl) })
     (λ c. search text_unended)
     -- if !text::numbers(&text[..e], 68, first) { return Outcome::Refused(22); }
-    (λ c. let at_scan : tie.After-scan = search in sym (length-take-le _ _ at_scan.scan.ensures.inside))
+    (λ c. let at_scan : tie.After-scan-e = search in sym (length-take-le _ _ at_scan.scan-e.ensures.inside))
     (λ c κs. record { one = inr (inr (inl refl)) })
     (λ c. search rules)
     (λ c. search (line_none, text_bad))

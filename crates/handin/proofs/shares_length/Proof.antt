@@ -8,10 +8,10 @@ use borrow.Author.Rules.{rules}
 use Rattle.handin.proofs.shares_length.Statement.{statement}
 use Rattle.handin.proofs.shares_length.Tie as tie
 
-abbrev invariant_loop : tie.invariant_loop
+abbrev invariant_loop : tie.invariant-loop-i
 invariant_loop s present shares count₀ i₀ count i = Counted s.t s.d present shares s.n count i
 
-abbrev decreases_loop : tie.decreases_loop
+abbrev decreases_loop : tie.decreases-loop-i
 decreases_loop s present shares count₀ i₀ count i = s.n - i
 
 pub shares_length_spec : {M : Type 1} → statement M
@@ -24,12 +24,12 @@ shares_length_spec =
     -- count += share_length(s, present, i, shares);
     (λ c κs. search rules)
     (λ c.
-    let (entry, words, at_loop, in_loop) : tie.Start invariant_loop decreases_loop × tie.After-shared-slice-known invariant_loop decreases_loop × tie.At-loop invariant_loop decreases_loop
-    × tie.Then1 invariant_loop decreases_loop = (search, search, search, search) in
+    let (entry, words, at_loop, in_loop) : tie.Start invariant_loop decreases_loop × tie.After-shared_slice_known-1 invariant_loop decreases_loop × tie.At-loop-i invariant_loop decreases_loop
+    × tie.In-loop-i invariant_loop decreases_loop = (search, search, search, search) in
     omega (
       arith,
-      lines_fit _ _ entry.pre (λ k. omega (arith, words.shared_slice_known.given k)) _ _ _ _ in_loop.if1.taken at_loop.loop.inv
-          c.share_length.ensures,
+      lines_fit _ _ entry.requires (λ k. omega (arith, words.shared_slice_known-1.given k)) _ _ _ _ in_loop.loop-i-test.true at_loop.loop-i.invariant
+          c.share_length-count.ensures,
     ))
     -- i += 1;
     (λ c. search rules)

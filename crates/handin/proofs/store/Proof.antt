@@ -7,10 +7,10 @@ use Rattle.lists.proofs.Stores.{Copied, copied_first, copied_next, copied_last}
 use Rattle.handin.proofs.store.Statement.{statement}
 use Rattle.handin.proofs.store.Tie as tie
 
-abbrev invariant_loop : tie.invariant_loop
+abbrev invariant_loop : tie.invariant-loop-i
 invariant_loop share words₀ at i₀ words i = Copied share words₀ at words i
 
-abbrev decreases_loop : tie.decreases_loop
+abbrev decreases_loop : tie.decreases-loop-i
 decreases_loop share words₀ at i₀ words i = length share - i
 
 pub store_spec : {M : Type 1} → statement M

@@ -19,7 +19,7 @@ take_line_spec =
     (λ c. search rules)
     (λ c. search rules)
     (λ c.
-    let (entry, read, good, done) : tie.Start × tie.After-numbers × tie.Else1 × tie.After-take-share = (search, search, search, search) in
-    take_some _ entry.pre.0 _ _ _ _ _ _
-    (line_some _ _ _ entry.args.scratch.now _ read.numbers.result entry.pre.1.0 read.numbers.ensures good.if1.left)
+    let (entry, read, good, done) : tie.Start × tie.After-numbers × tie.Else-not-numbers × tie.After-take_share = (search, search, search, search) in
+    take_some _ entry.requires.0 _ _ _ _ _ _
+    (line_some _ _ _ entry.args.scratch.now _ read.numbers.result entry.requires.1.0 read.numbers.ensures good.if-not-numbers.false-raw)
     done.take_share.ensures))

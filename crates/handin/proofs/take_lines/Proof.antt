@@ -15,13 +15,13 @@ use Rattle.handin.proofs.Reaching.{Reached, reached_start, reached_unended, reac
 use Rattle.handin.proofs.take_lines.Statement.{statement}
 use Rattle.handin.proofs.take_lines.Tie as tie
 
-abbrev invariant_loop : tie.invariant_loop
+abbrev invariant_loop : tie.invariant-loop-rest
 invariant_loop text s quorum day scratch₀ words₀ present₀ rest₀ scratch words present rest =
     (length scratch ≡ length scratch₀)
     × ((length words ≡ length words₀)
     × ((length rest ≤ length text) × Reached s.t s.d (take_lines s.t s.d [] (parts 10 text)) rest present words))
 
-abbrev decreases_loop : tie.decreases_loop
+abbrev decreases_loop : tie.decreases-loop-rest
 decreases_loop text s quorum day scratch₀ words₀ present₀ rest₀ scratch words present rest = length rest
 
 pub take_lines_spec : {M : Type 1} → statement M
@@ -38,7 +38,7 @@ take_lines_spec =
     (λ c. search rules)
     (λ c. search (reached_unended, answer_refused))
     -- match take_line(&rest[..e], s, present, scratch, words)
-    (λ c. let at_scan : tie.After-scan invariant_loop decreases_loop = search in sym (length-take-le _ _ at_scan.scan.ensures.inside))
+    (λ c. let at_scan : tie.After-scan-e invariant_loop decreases_loop = search in sym (length-take-le _ _ at_scan.scan-e.ensures.inside))
     (λ c κs. (search rules, (search rules, search rules)))
     (λ c. search rules)
     -- Line::Refused(k) => return Outcome::Refused(k)
@@ -46,10 +46,10 @@ take_lines_spec =
     (λ c. search rules)
     (λ c. search rules)
     (λ c.
-    let (at_loop, at_scan, ended) : tie.At-loop invariant_loop decreases_loop × tie.After-scan invariant_loop decreases_loop × tie.Else1 invariant_loop decreases_loop = (search, search, search) in
-    let (taken, told) : tie.After-take-line invariant_loop decreases_loop × tie.After-k invariant_loop decreases_loop = (search, search) in
-    answer_refused _ _ _ _ _ _ _ _ _ taken.take_line.kept.1.1.1.1.0 at_loop.loop.inv.1.0
-    (reached_refused at_loop.loop.inv.1.1.1 _ at_scan.scan.ensures ended.if1.left _ _ taken.take_line.ensures _ told.k.given.1))
+    let (at_loop, at_scan, ended) : tie.At-loop-rest invariant_loop decreases_loop × tie.After-scan-e invariant_loop decreases_loop × tie.Else-e-rest invariant_loop decreases_loop = (search, search, search) in
+    let (taken, told) : tie.After-take_line invariant_loop decreases_loop × tie.In-Refused invariant_loop decreases_loop = (search, search) in
+    answer_refused _ _ _ _ _ _ _ _ _ taken.take_line.auto.words at_loop.loop-rest.invariant.1.0
+    (reached_refused at_loop.loop-rest.invariant.1.1.1 _ at_scan.scan-e.ensures ended.if-e-rest.false _ _ taken.take_line.ensures _ told.in-Refused.is))
     -- rest = &rest[e + 1..];
     (λ c. search rules)
     (λ c. search rules)

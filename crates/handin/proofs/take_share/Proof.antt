@@ -14,12 +14,12 @@ take_share_spec =
     (tie.spec
     -- let member = numbers[0] as usize;
     (λ c. search rules)
-    (λ c. omega (arith, c.shared_slice_known2.given 0))
+    (λ c. omega (arith, c.shared_slice_known-2-1.given 0))
     -- if !lists::within(1, s.n, member) { return Line::Refused(24); }
     (λ c κs. search rules)
     (λ c. search (fails, take_out))
     -- let i = member - 1;
-    (λ c. let at_within : tie.After-within = search in within_low 1 _ _ (passes _ _ at_within.within.ensures c.if1.false))
+    (λ c. let at_within : tie.After-within = search in within_low 1 _ _ (passes _ _ at_within.within.ensures c.if-not-within.false-raw))
     -- if members::has(present, i) { return Line::Refused(24); }
     (λ c κs. search rules)
     (λ c. search (passes, take_met))

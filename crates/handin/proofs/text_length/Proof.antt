@@ -14,10 +14,10 @@ text_length_spec =
     (λ c κs. search rules)
     (λ c κs. search rules)
     (λ c.
-    let (entry, words, first) : tie.Start × tie.After-shared-slice-known × tie.After-first-length = (search, search, search) in
+    let (entry, words, first) : tie.Start × tie.After-shared_slice_known-1 × tie.After-first_length = (search, search, search) in
     omega (
       arith,
-      text_fits _ _ entry.pre (λ k. omega (arith, words.shared_slice_known.given k)) _ _ (omega arith) _ (omega arith) _ _
-          first.first-length.ensures c.shares_length.ensures,
+      text_fits _ _ entry.requires (λ k. omega (arith, words.shared_slice_known-1.given k)) _ _ (omega arith) _ (omega arith) _ _
+          first.first_length.ensures c.shares_length.ensures,
     ))
     (λ c. search text_length))

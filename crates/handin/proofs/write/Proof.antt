@@ -11,10 +11,10 @@ use Rattle.handin.proofs.write.Statement.{statement}
 use Rattle.handin.proofs.write.Tie as tie
 
 -- t and d have passed
-range : (c : tie.Else2) → let entry : tie.Start = search in InRange entry.args.t entry.args.d
+range : (c : tie.Else-not-within) → let entry : tie.Start = search in InRange entry.args.t entry.args.d
 range c = search (in_range, passes)
 
-shape : (c : tie.After-shape-of) → Station c.shape_of.result
+shape : (c : tie.After-shape_of-s) → Station c.shape_of-s.result
 shape c = search (station_of, range)
 
 pub write_spec : {M : Type 1} → statement M
@@ -33,7 +33,7 @@ write_spec =
     -- let s = shares::shape_of(t, d);
     (λ c κs. search range)
     -- if shares.len() != s.n * s.width { return Wrote::Refused(11); }
-    (λ c. let s : tie.After-shape-of = search in omega (arith, (shape s).all_fit))
+    (λ c. let s : tie.After-shape_of-s = search in omega (arith, (shape s).all_fit))
     (λ c. search (wrote_11, passes, wrong_length))
     -- if members::first(s.n) < present { return Wrote::Refused(12); }
     (λ c κs. search rules)

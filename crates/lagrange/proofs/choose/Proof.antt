@@ -9,13 +9,13 @@ use Rattle.lagrange.proofs.Matrix.{Choosing, choosing_first, left_inside, choosi
 use Rattle.lagrange.proofs.choose.Statement.{statement}
 use Rattle.lagrange.proofs.choose.Tie as tie
 
-abbrev invariant_loop : tie.invariant_loop
+abbrev invariant_loop : tie.invariant-loop-m
 invariant_loop n set points₀ rest₀ m₀ points rest m = Choosing n points rest m × (length points ≡ length points₀)
 
-abbrev decreases_loop : tie.decreases_loop
+abbrev decreases_loop : tie.decreases-loop-m
 decreases_loop n set points₀ rest₀ m₀ points rest m = length points - m
 
-inside : (c : tie.After-lowest invariant_loop decreases_loop) → let start : tie.Start invariant_loop decreases_loop = search in c.lowest.result < start.args.n
+inside : (c : tie.After-lowest-i invariant_loop decreases_loop) → let start : tie.Start invariant_loop decreases_loop = search in c.lowest-i.result < start.args.n
 inside c = search left_inside
 
 pub choose_spec : {M : Type 1} → statement M
@@ -28,8 +28,8 @@ choose_spec =
     -- let i = members::lowest(rest)
     (λ c κs. tt)
     -- points[m] = (i + 1) as u16
-    (λ c. let l : tie.After-lowest invariant_loop decreases_loop = search in omega (arith, inside l))
-    (λ c. let l : tie.After-lowest invariant_loop decreases_loop = search in omega (arith, inside l))
+    (λ c. let l : tie.After-lowest-i invariant_loop decreases_loop = search in omega (arith, inside l))
+    (λ c. let l : tie.After-lowest-i invariant_loop decreases_loop = search in omega (arith, inside l))
     (λ c. omega arith)
     (λ c. omega arith)
     -- rest = members::without(rest, i)

@@ -8,10 +8,10 @@ use Rattle.lagrange.proofs.Products.{Multiplied, multiplied_first, multiplied_ne
 use Rattle.lagrange.proofs.differences.Statement.{statement}
 use Rattle.lagrange.proofs.differences.Tie as tie
 
-abbrev invariant_loop : tie.invariant_loop
+abbrev invariant_loop : tie.invariant-loop-k
 invariant_loop x points result₀ k₀ result k = Multiplied (difference x) points result k
 
-abbrev decreases_loop : tie.decreases_loop
+abbrev decreases_loop : tie.decreases-loop-k
 decreases_loop x points result₀ k₀ result k = length points - k
 
 pub differences_spec : {M : Type 1} → statement M

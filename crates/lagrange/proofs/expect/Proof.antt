@@ -13,10 +13,10 @@ use Rattle.lagrange.specs.Internal.Matrix.{products}
 use Rattle.lagrange.proofs.expect.Statement.{statement}
 use Rattle.lagrange.proofs.expect.Tie as tie
 
-abbrev invariant_loop : tie.invariant_loop
+abbrev invariant_loop : tie.invariant-loop-x
 invariant_loop matrix words expected₀ count x₀ expected x = Filled (products matrix words) (length expected₀) expected x
 
-abbrev decreases_loop : tie.decreases_loop
+abbrev decreases_loop : tie.decreases-loop-x
 decreases_loop matrix words expected₀ count x₀ expected x = length expected₀ - x
 
 -- the part that is lent is the row
@@ -46,7 +46,7 @@ expect_spec =
     (λ c. omega arith)
     (λ c. omega arith)
     (λ c.
-    let (loop, summed) : tie.At-loop invariant_loop decreases_loop × tie.After-inner-product invariant_loop decreases_loop = (search, search) in
-    filled_next _ _ _ _ _ (omega arith) loop.loop.inv (row_lent _ _ _ _ summed.inner_product.ensures))
+    let (loop, summed) : tie.At-loop-x invariant_loop decreases_loop × tie.After-inner_product invariant_loop decreases_loop = (search, search) in
+    filled_next _ _ _ _ _ (omega arith) loop.loop-x.invariant (row_lent _ _ _ _ summed.inner_product.ensures))
     (λ c. omega arith)
-    (λ c. let loop : tie.At-loop invariant_loop decreases_loop = search in filled_last _ _ _ _ (omega arith) loop.loop.inv))
+    (λ c. let loop : tie.At-loop-x invariant_loop decreases_loop = search in filled_last _ _ _ _ (omega arith) loop.loop-x.invariant))

@@ -15,10 +15,10 @@ use Rattle.lagrange.proofs.Lagrange.{entry_of, row_reads}
 use Rattle.lagrange.proofs.fill_row.Statement.{statement}
 use Rattle.lagrange.proofs.fill_row.Tie as tie
 
-abbrev invariant_loop : tie.invariant_loop
+abbrev invariant_loop : tie.invariant-loop-m
 invariant_loop points ws x row₀ all m₀ row m = Filled (entry_of points x) (length points) row m
 
-abbrev decreases_loop : tie.decreases_loop
+abbrev decreases_loop : tie.decreases-loop-m
 decreases_loop points ws x row₀ all m₀ row m = length points - m
 
 as_many : (xs ws : List ℕ) → ws ≡ weights xs → length ws ≡ length xs
@@ -38,7 +38,7 @@ abbrev Start : Type 0
 Start = tie.Start invariant_loop decreases_loop
 
 abbrev Loop : Type 0
-Loop = tie.At-loop invariant_loop decreases_loop
+Loop = tie.At-loop-m invariant_loop decreases_loop
 
 pub fill_row_spec : {M : Type 1} → statement M
 fill_row_spec =
@@ -49,8 +49,8 @@ fill_row_spec =
     (λ c κs. tt)
     (λ c. search filled_first)
     -- row[m] = entry(all, weights[m], x, points[m])
-    (λ c. let start : Start = search in omega (arith, as_many _ _ start.pre.0.1))
-    (λ c. let start : Start = search in omega (arith, as_many _ _ start.pre.0.1))
+    (λ c. let start : Start = search in omega (arith, as_many _ _ start.requires.0.1))
+    (λ c. let start : Start = search in omega (arith, as_many _ _ start.requires.0.1))
     (λ c. omega arith)
     (λ c. omega arith)
     (λ c κs. tt)
@@ -60,9 +60,9 @@ fill_row_spec =
     (λ c. omega arith)
     (λ c. omega arith)
     (λ c.
-    let (start, loop, all, one) : Start × Loop × tie.After-differences invariant_loop decreases_loop × tie.After-entry invariant_loop decreases_loop = (search, search, search, search) in
-    filled_next _ _ _ _ _ (omega arith) loop.loop.inv (entry_is _ _ _ _ _ _ (omega arith) start.pre.0.1 all.differences.ensures one.entry.ensures))
+    let (start, loop, all, one) : Start × Loop × tie.After-differences-all invariant_loop decreases_loop × tie.After-entry invariant_loop decreases_loop = (search, search, search, search) in
+    filled_next _ _ _ _ _ (omega arith) loop.loop-m.invariant (entry_is _ _ _ _ _ _ (omega arith) start.requires.0.1 all.differences-all.ensures one.entry.ensures))
     (λ c. omega arith)
     (λ c.
     let (start, loop) : Start × Loop = (search, search) in
-    row_reads _ start.pre.0.0 _ start.pre.1.1 _ (filled_last _ _ _ _ (omega arith) loop.loop.inv)))
+    row_reads _ start.requires.0.0 _ start.requires.1.1 _ (filled_last _ _ _ _ (omega arith) loop.loop-m.invariant)))

@@ -10,10 +10,10 @@ use Rattle.lagrange.proofs.Matrix.{Filling, filling_first, filling_next, filling
 use Rattle.lagrange.proofs.fill_rows.Statement.{statement}
 use Rattle.lagrange.proofs.fill_rows.Tie as tie
 
-abbrev invariant_loop : tie.invariant_loop
+abbrev invariant_loop : tie.invariant-loop-x
 invariant_loop n points weights matrix₀ count x₀ matrix x = Filling n points matrix x
 
-abbrev decreases_loop : tie.decreases_loop
+abbrev decreases_loop : tie.decreases-loop-x
 decreases_loop n points weights matrix₀ count x₀ matrix x = n + 1 - x
 
 pub fill_rows_spec : {M : Type 1} → statement M

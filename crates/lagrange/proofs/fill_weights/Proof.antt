@@ -8,10 +8,10 @@ use Rattle.lagrange.specs.Internal.Lagrange.{weight, weights}
 use Rattle.lagrange.proofs.fill_weights.Statement.{statement}
 use Rattle.lagrange.proofs.fill_weights.Tie as tie
 
-abbrev invariant_loop : tie.invariant_loop
+abbrev invariant_loop : tie.invariant-loop-m
 invariant_loop points weights₀ m₀ ws m = Filled (weight points) (length points) ws m
 
-abbrev decreases_loop : tie.decreases_loop
+abbrev decreases_loop : tie.decreases-loop-m
 decreases_loop points weights₀ m₀ ws m = length points - m
 
 pub fill_weights_spec : {M : Type 1} → statement M
@@ -30,7 +30,7 @@ fill_weights_spec =
     (λ c. omega arith)
     (λ c. omega arith)
     (λ c.
-    let (loop, weighed) : tie.At-loop invariant_loop decreases_loop × tie.After-weight invariant_loop decreases_loop = (search, search) in
-    filled_next _ _ _ _ _ (omega arith) loop.loop.inv weighed.weight.ensures)
+    let (loop, weighed) : tie.At-loop-m invariant_loop decreases_loop × tie.After-weight invariant_loop decreases_loop = (search, search) in
+    filled_next _ _ _ _ _ (omega arith) loop.loop-m.invariant weighed.weight.ensures)
     (λ c. omega arith)
-    (λ c. let loop : tie.At-loop invariant_loop decreases_loop = search in filled_last _ _ _ _ (omega arith) loop.loop.inv))
+    (λ c. let loop : tie.At-loop-m invariant_loop decreases_loop = search in filled_last _ _ _ _ (omega arith) loop.loop-m.invariant))

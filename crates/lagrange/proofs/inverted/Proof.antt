@@ -9,10 +9,10 @@ use Rattle.lagrange.proofs.Products.{Multiplied, multiplied_first, multiplied_ne
 use Rattle.lagrange.proofs.inverted.Statement.{statement}
 use Rattle.lagrange.proofs.inverted.Tie as tie
 
-abbrev invariant_loop : tie.invariant_loop
+abbrev invariant_loop : tie.invariant-loop-k
 invariant_loop x points result₀ k₀ result k = Multiplied (λ a. inverse (difference x a)) points result k
 
-abbrev decreases_loop : tie.decreases_loop
+abbrev decreases_loop : tie.decreases-loop-k
 decreases_loop x points result₀ k₀ result k = length points - k
 
 pub inverted_spec : {M : Type 1} → statement M

@@ -29,7 +29,7 @@ weight_spec =
     (λ c. search rules)
     (λ c. search rules)
     -- field::multiply(inverted(x, &points[..m]), inverted(x, &points[m + 1..]))
-    (λ c. let start : tie.Start = search in front_part _ _ start.pre)
+    (λ c. let start : tie.Start = search in front_part _ _ start.requires)
     (λ c κs. search rules)
     (λ c. omega arith)
     (λ c. omega arith)

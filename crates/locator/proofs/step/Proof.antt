@@ -23,8 +23,8 @@ step_spec =
     (λ c. search rules)
     (λ c.
     let (entry, off0, off1, turn) : tie.Start × tie.After-off_by-d0 × tie.After-off_by-d1 × tie.After-first_turn = (search, search, search, search) in
-    let seen : Seen _ _ _ entry.args.p-1.now entry.args.q-1.now entry.args.at _ _ _ =
-    record { first = off0.off_by-d0.ensures; second = off1.off_by-d1.ensures; whose = turn.first_turn_lem.ensures } in
+    let seen : Seen _ _ _ entry.args.p.now entry.args.q.now entry.args.at _ _ _ =
+    record { first = off0.off_by-d0.ensures; second = off1.off_by-d1.ensures; whose = turn.first_turn.ensures } in
     search (step_none seen))
     -- the second pair is raised
     (λ c κs. search rules)

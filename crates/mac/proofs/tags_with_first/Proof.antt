@@ -27,14 +27,14 @@ next alphas betas first rest tags j w r less t ew er =
     replaced_next _ _ 0 32 tags j r less t
     (tag_two (get_or alphas j 0) (get_or betas j 0) first (get_or tags j 0) w r rest (t.left j (le_refl j) less) ew er)
 
-abbrev invariant_loop : tie.invariant_loop
+abbrev invariant_loop : tie.invariant-loop-j
 invariant_loop alphas betas first rest tags₀ j₀ tags j = Turn alphas betas first rest tags j
 
-abbrev decreases_loop : tie.decreases_loop
+abbrev decreases_loop : tie.decreases-loop-j
 decreases_loop alphas betas first rest tags₀ j₀ tags j = 32 - j
 
 abbrev Loop : Type 0
-Loop = tie.At-loop invariant_loop decreases_loop
+Loop = tie.At-loop-j invariant_loop decreases_loop
 
 pub tags_with_first_spec : {M : Type 1} → statement M
 tags_with_first_spec =
@@ -44,26 +44,26 @@ tags_with_first_spec =
     decreases_loop
     -- lanes::evaluate_at(rest, alphas, tags)
     (λ c κs. search rules)
-    (λ c. let values : tie.After-evaluate-at invariant_loop decreases_loop = search in replaced_first _ _ _ _ _ values.evaluate_at.ensures)
+    (λ c. let values : tie.After-evaluate_at invariant_loop decreases_loop = search in replaced_first _ _ _ _ _ values.evaluate_at.ensures)
     -- let alpha = alphas[j]
     (λ c. omega arith)
     (λ c. omega arith)
     -- let value = field::add_product(first, alpha, tags[j])
     (λ c. omega arith)
-    (λ c. let loop : Loop = search in omega (arith, loop.loop.inv.long))
+    (λ c. let loop : Loop = search in omega (arith, loop.loop-j.invariant.long))
     (λ c κs. search rules)
     -- tags[j] = field::add_product(betas[j], alpha, value)
     (λ c. omega arith)
     (λ c. omega arith)
     (λ c κs. search rules)
     (λ c. omega arith)
-    (λ c. let loop : Loop = search in omega (arith, loop.loop.inv.long))
+    (λ c. let loop : Loop = search in omega (arith, loop.loop-j.invariant.long))
     -- j = j + 1
     (λ c. omega arith)
     (λ c. omega arith)
     (λ c.
-    let (start, loop, turn, over, tag) : tie.Start invariant_loop decreases_loop × Loop × tie.In-loop invariant_loop decreases_loop × tie.After-add-product invariant_loop decreases_loop × tie.After-add-product2 invariant_loop decreases_loop =
+    let (start, loop, turn, over, tag) : tie.Start invariant_loop decreases_loop × Loop × tie.In-loop-j invariant_loop decreases_loop × tie.After-add_product-value invariant_loop decreases_loop × tie.After-add_product invariant_loop decreases_loop =
     (search, search, search, search, search) in
-    next start.args.alphas.now start.args.betas.now _ _ _ _ _ _ turn.loop-test.taken loop.loop.inv over.add-product.ensures tag.add_product2.ensures)
-    (λ c. let loop : Loop = search in omega (arith, loop.loop.inv.long))
-    (λ c. let loop : Loop = search in replaced_last _ _ _ _ _ _ (omega arith) loop.loop.inv))
+    next start.args.alphas.now start.args.betas.now _ _ _ _ _ _ turn.loop-j-test.true loop.loop-j.invariant over.add_product-value.ensures tag.add_product.ensures)
+    (λ c. let loop : Loop = search in omega (arith, loop.loop-j.invariant.long))
+    (λ c. let loop : Loop = search in replaced_last _ _ _ _ _ _ (omega arith) loop.loop-j.invariant))

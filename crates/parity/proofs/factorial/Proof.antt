@@ -9,13 +9,13 @@ use Rattle.parity.proofs.Turns.{factorial_next, factorial_last}
 use Rattle.parity.proofs.factorial.Statement.{statement}
 use Rattle.parity.proofs.factorial.Tie as tie
 
-abbrev invariant_loop : tie.invariant_loop
+abbrev invariant_loop : tie.invariant-loop-k
 invariant_loop n result₀ k₀ result k = (k ≤ n) × (result ≡ factorial k % prime)
 
-abbrev decreases_loop : tie.decreases_loop
+abbrev decreases_loop : tie.decreases-loop-k
 decreases_loop n result₀ k₀ result k = n - k
 
-first : tie.Need-loop-init invariant_loop decreases_loop
+first : tie.Need-loop-k-init invariant_loop decreases_loop
 unfolding factorial
 first c = (omega arith, refl)
 
@@ -32,5 +32,5 @@ factorial_spec =
     (λ c. omega arith)
     (λ c κs. tt)
     (λ c. omega arith)
-    (λ c. let loop : tie.At-loop invariant_loop decreases_loop = search in (omega arith, factorial_next _ _ _ loop.loop.inv.1 c.multiply.ensures))
-    (λ c. let loop : tie.At-loop invariant_loop decreases_loop = search in factorial_last _ _ _ (omega arith) loop.loop.inv.1))
+    (λ c. let loop : tie.At-loop-k invariant_loop decreases_loop = search in (omega arith, factorial_next _ _ _ loop.loop-k.invariant.1 c.multiply-result.ensures))
+    (λ c. let loop : tie.At-loop-k invariant_loop decreases_loop = search in factorial_last _ _ _ (omega arith) loop.loop-k.invariant.1))

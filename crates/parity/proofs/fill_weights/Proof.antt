@@ -9,10 +9,10 @@ use Rattle.parity.specs.Parity.{weight}
 use Rattle.parity.proofs.fill_weights.Statement.{statement}
 use Rattle.parity.proofs.fill_weights.Tie as tie
 
-abbrev invariant_loop : tie.invariant_loop
+abbrev invariant_loop : tie.invariant-loop-i
 invariant_loop t row₀ i₀ row i = Filled (weight (size t)) (size t) row i
 
-abbrev decreases_loop : tie.decreases_loop
+abbrev decreases_loop : tie.decreases-loop-i
 decreases_loop t row₀ i₀ row i = size t - i
 
 pub fill_weights_spec : {M : Type 1} → statement M
@@ -21,7 +21,7 @@ fill_weights_spec =
     (tie.spec
     invariant_loop
     decreases_loop
-    (λ c. let s : tie.Start invariant_loop decreases_loop = search in filled_first _ _ _ s.pre.2)
+    (λ c. let s : tie.Start invariant_loop decreases_loop = search in filled_first _ _ _ s.requires.2)
     -- row[i] = weight(t, i)
     (λ c κs. (search rules, search rules, omega arith))
     (λ c. omega arith)
@@ -30,7 +30,7 @@ fill_weights_spec =
     (λ c. omega arith)
     (λ c. omega arith)
     (λ c.
-    let loop : tie.At-loop invariant_loop decreases_loop = search in
-    filled_next _ _ _ _ _ (omega arith) loop.loop.inv c.weight.ensures)
+    let loop : tie.At-loop-i invariant_loop decreases_loop = search in
+    filled_next _ _ _ _ _ (omega arith) loop.loop-i.invariant c.weight.ensures)
     (λ c. omega arith)
-    (λ c. let loop : tie.At-loop invariant_loop decreases_loop = search in filled_last _ _ _ _ (omega arith) loop.loop.inv))
+    (λ c. let loop : tie.At-loop-i invariant_loop decreases_loop = search in filled_last _ _ _ _ (omega arith) loop.loop-i.invariant))

@@ -10,9 +10,9 @@ use Rattle.parity.proofs.look_by_rows.Statement.{statement}
 use Rattle.parity.proofs.look_by_rows.Tie as tie
 
 -- not more words are counted than there are
-few : (c : tie.After-sum-row)
-    → let (start, counted) : tie.Start × tie.After-count-balanced = (search, search) in counted.count_balanced.result ≤ start.args.s.d
-few c = let counted : tie.After-count-balanced = search in looked-le _ _ _ _ counted.count_balanced.ensures
+few : (c : tie.After-sum_row)
+    → let (start, counted) : tie.Start × tie.After-count_balanced-left = (search, search) in counted.count_balanced-left.result ≤ start.args.s.d
+few c = let counted : tie.After-count_balanced-left = search in looked-le _ _ _ _ counted.count_balanced-left.ensures
 
 pub look_by_rows_spec : {M : Type 1} → statement M
 look_by_rows_spec =
@@ -26,18 +26,18 @@ look_by_rows_spec =
     (λ c κs. search rules)
     -- store_values(low, high, left, secret)
     (λ c κs.
-    let (start, made) : tie.Start × tie.After-sum-row = (search, search) in (
-      halves_most _ _ (sym made.sum_row.ensures.halves.low_long) start.pre.0.station.few made.sum_row.ensures.halves,
-      (omega (arith, few made, made.sum_row.ensures.halves.low_long), omega (arith, few made, start.pre.1.3)),
+    let (start, made) : tie.Start × tie.After-sum_row = (search, search) in (
+      halves_most _ _ (sym made.sum_row.ensures.halves.low_long) start.requires.0.station.few made.sum_row.ensures.halves,
+      (omega (arith, few made, made.sum_row.ensures.halves.low_long), omega (arith, few made, start.requires.1.3)),
     ))
     (λ c. search rules)
     (λ c. search rules)
     (λ c. search rules)
     (λ c. search rules)
     (λ c.
-    let (start, counted, filled, made, stored) : tie.Start × tie.After-count-balanced × tie.After-fill-zero-weights × tie.After-sum-row × tie.After-store-values
+    let (start, counted, filled, made, stored) : tie.Start × tie.After-count_balanced-left × tie.After-fill_zero_weights × tie.After-sum_row × tie.After-store_values
     = (search, search, search, search, search) in (
-      counted.count_balanced.ensures,
-      stored_values _ _ _ _ _ _ _ _ _ _ start.pre.0.station.members filled.fill_zero_weights.ensures made.sum_row.ensures (few made)
+      counted.count_balanced-left.ensures,
+      stored_values _ _ _ _ _ _ _ _ _ _ start.requires.0.station.members filled.fill_zero_weights.ensures made.sum_row.ensures (few made)
           stored.store_values.ensures,
     )))

@@ -11,10 +11,10 @@ use Rattle.parity.proofs.Turns.{raised}
 use Rattle.parity.proofs.raise.Statement.{statement}
 use Rattle.parity.proofs.raise.Tie as tie
 
-abbrev invariant_loop : tie.invariant_loop
+abbrev invariant_loop : tie.invariant-loop-i
 invariant_loop row₀ i₀ row i = Replaced (λ k. get_or row₀ k 0) (λ k. product (get_or row₀ k 0) (suc k)) 0 (length row₀) row i
 
-abbrev decreases_loop : tie.decreases_loop
+abbrev decreases_loop : tie.decreases-loop-i
 decreases_loop row₀ i₀ row i = length row₀ - i
 
 pub raise_spec : {M : Type 1} → statement M
@@ -36,7 +36,7 @@ raise_spec =
     (λ c. omega arith)
     (λ c. omega arith)
     (λ c.
-    let (start, loop) : tie.Start invariant_loop decreases_loop × tie.At-loop invariant_loop decreases_loop = (search, search) in
-    replaced_next _ _ _ _ _ _ _ (omega arith) loop.loop.invariant (raised start.args.row.now _ _ _ loop.loop.invariant (omega arith) c.multiply.ensures))
+    let (start, loop) : tie.Start invariant_loop decreases_loop × tie.At-loop-i invariant_loop decreases_loop = (search, search) in
+    replaced_next _ _ _ _ _ _ _ (omega arith) loop.loop-i.invariant (raised start.args.row.now _ _ _ loop.loop-i.invariant (omega arith) c.multiply.ensures))
     (λ c. omega arith)
-    (λ c. let loop : tie.At-loop invariant_loop decreases_loop = search in replaced_last _ _ _ _ _ _ (omega arith) loop.loop.inv))
+    (λ c. let loop : tie.At-loop-i invariant_loop decreases_loop = search in replaced_last _ _ _ _ _ _ (omega arith) loop.loop-i.invariant))

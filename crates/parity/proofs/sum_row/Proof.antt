@@ -10,10 +10,10 @@ use Rattle.parity.proofs.Summing.{halves_most, summed_first, summed_next, summed
 use Rattle.parity.proofs.sum_row.Statement.{statement}
 use Rattle.parity.proofs.sum_row.Tie as tie
 
-abbrev invariant_loop : tie.invariant_loop
+abbrev invariant_loop : tie.invariant-loop-i
 invariant_loop s shares row low₀ high₀ d i₀ low high i = (i ≤ s.n) × Summed s.d (share_word s.t s.d shares) row i low high
 
-abbrev decreases_loop : tie.decreases_loop
+abbrev decreases_loop : tie.decreases-loop-i
 decreases_loop s shares row low₀ high₀ d i₀ low high i = s.n - i
 
 -- the places of the code that the answers below name
@@ -21,17 +21,17 @@ abbrev Start : Type 0
 Start = tie.Start invariant_loop decreases_loop
 
 abbrev Loop : Type 0
-Loop = tie.At-loop invariant_loop decreases_loop
+Loop = tie.At-loop-i invariant_loop decreases_loop
 
 abbrev Placed : Type 0
-Placed = tie.After-words-at invariant_loop decreases_loop
+Placed = tie.After-words_at-at invariant_loop decreases_loop
 
 -- the products of the member's weight and its words
 small : (c : Placed) → let (start, loop) : Start × Loop = (search, search) in
-    (k : ℕ) → get_or start.args.row.now loop.loop.i 0 * share_word start.args.s.t start.args.s.d start.args.shares.now loop.loop.i k ≤ 4294836225
+    (k : ℕ) → get_or start.args.row.now loop.loop-i.i 0 * share_word start.args.s.t start.args.s.d start.args.shares.now loop.loop-i.i k ≤ 4294836225
 small c =
-    let (loop, word, entry) : Loop × tie.After-shared-slice-known invariant_loop decreases_loop × tie.After-shared-slice-known2 invariant_loop decreases_loop = (search, search, search) in
-    member_small _ _ _ _ _ (λ k. omega (arith, word.shared_slice_known.given k)) (omega (arith, entry.shared_slice_known2.given loop.loop.i))
+    let (loop, word, entry) : Loop × tie.After-shared_slice_known-1 invariant_loop decreases_loop × tie.After-shared_slice_known-2-1 invariant_loop decreases_loop = (search, search, search) in
+    member_small _ _ _ _ _ (λ k. omega (arith, word.shared_slice_known-1.given k)) (omega (arith, entry.shared_slice_known-2-1.given loop.loop-i.i))
 
 pub sum_row_spec : {M : Type 1} → statement M
 sum_row_spec =
@@ -43,30 +43,30 @@ sum_row_spec =
     (λ c κs. omega arith)
     (λ c.
     let (start, cleared) : Start × tie.After-clear invariant_loop decreases_loop = (search, search) in
-    (omega arith, summed_first _ _ _ _ _ _ start.pre.1.1 cleared.clear.ensures.0 cleared.clear.ensures.1))
+    (omega arith, summed_first _ _ _ _ _ _ start.requires.1.1 cleared.clear.ensures.0 cleared.clear.ensures.1))
     -- let at = shares::words_at(s, i)
     (λ c κs. (search rules, omega arith))
     -- let end = at + d
-    (λ c. let (start, placed) : Start × Placed = (search, search) in omega (arith, placed.words_at_lem.ensures.inside, start.pre.0.station.all_fit))
+    (λ c. let (start, placed) : Start × Placed = (search, search) in omega (arith, placed.words_at-at.ensures.inside, start.requires.0.station.all_fit))
     -- add_member(row[i], &shares[at..end], low, high)
     (λ c. omega arith)
     (λ c. omega arith)
     (λ c. omega arith)
     (λ c. omega arith)
     (λ c. omega arith)
-    (λ c. let (start, placed) : Start × Placed = (search, search) in omega (arith, placed.words_at_lem.ensures.inside, start.pre.0.long))
+    (λ c. let (start, placed) : Start × Placed = (search, search) in omega (arith, placed.words_at-at.ensures.inside, start.requires.0.long))
     (λ c κs.
     let (start, loop, placed) : Start × Loop × Placed = (search, search, search) in
-    halves_most _ _ (member_count _ _ start.pre.0 _ _ placed.words_at_lem.ensures) (omega (arith, start.pre.0.station.few)) loop.loop.inv.1.halves)
+    halves_most _ _ (member_count _ _ start.requires.0 _ _ placed.words_at-at.ensures) (omega (arith, start.requires.0.station.few)) loop.loop-i.invariant.1.halves)
     -- i = i + 1
     (λ c. omega arith)
     (λ c. omega arith)
     (λ c.
-    let (start, loop, placed, added) : Start × Loop × Placed × tie.After-add-member invariant_loop decreases_loop = (search, search, search, search) in (
+    let (start, loop, placed, added) : Start × Loop × Placed × tie.After-add_member invariant_loop decreases_loop = (search, search, search, search) in (
       omega arith,
-      summed_next _ _ _ _ _ _ _ _ _ loop.loop.inv.1 (member_words _ _ start.pre.0 _ _ placed.words_at_lem.ensures) (small placed)
+      summed_next _ _ _ _ _ _ _ _ _ loop.loop-i.invariant.1 (member_words _ _ start.requires.0 _ _ placed.words_at-at.ensures) (small placed)
           added.add_member.ensures.0 added.add_member.ensures.1,
     ))
-    (λ c. let (start, loop) : Start × Loop = (search, search) in omega (arith, start.pre.1.1, loop.loop.inv.1.halves.low_long))
-    (λ c. let (start, loop) : Start × Loop = (search, search) in omega (arith, start.pre.1.2, loop.loop.inv.1.halves.high_long))
-    (λ c. let loop : Loop = search in summed_last _ _ _ _ _ _ _ (omega arith) loop.loop.inv.1))
+    (λ c. let (start, loop) : Start × Loop = (search, search) in omega (arith, start.requires.1.1, loop.loop-i.invariant.1.halves.low_long))
+    (λ c. let (start, loop) : Start × Loop = (search, search) in omega (arith, start.requires.1.2, loop.loop-i.invariant.1.halves.high_long))
+    (λ c. let loop : Loop = search in summed_last _ _ _ _ _ _ _ (omega arith) loop.loop-i.invariant.1))

@@ -17,9 +17,9 @@ pub weight_spec : {M : Type 1} → statement M
 weight_spec =
     tie.close
     (tie.spec
-    (λ c. let s : tie.Start = search in omega (arith, (square _ s.pre.0 s.pre.1).1))
-    (λ c. let s : tie.Start = search in omega (arith, (square _ s.pre.0 s.pre.1).0))
-    (λ c. let s : tie.Start = search in omega (arith, place_inside _ _ s.pre.0 s.pre.1 s.pre.2))
-    (λ c. let s : tie.Start = search in omega (arith, place_inside _ _ s.pre.0 s.pre.1 s.pre.2))
-    (λ c. let s : tie.Start = search in place_inside _ _ s.pre.0 s.pre.1 s.pre.2)
+    (λ c. let s : tie.Start = search in omega (arith, (square _ s.requires.0 s.requires.1).1))
+    (λ c. let s : tie.Start = search in omega (arith, (square _ s.requires.0 s.requires.1).0))
+    (λ c. let s : tie.Start = search in omega (arith, place_inside _ _ s.requires.0 s.requires.1 s.requires.2))
+    (λ c. let s : tie.Start = search in omega (arith, place_inside _ _ s.requires.0 s.requires.1 s.requires.2))
+    (λ c. let s : tie.Start = search in place_inside _ _ s.requires.0 s.requires.1 s.requires.2)
     returns)

@@ -14,10 +14,10 @@ zero_weight_spec =
     -- let next = i + 1
     (λ c. omega arith)
     -- if n <= next { return 0 }
-    (λ c. no_next _ _ _ _ refl c.if1.true)
+    (λ c. no_next _ _ _ _ refl c.if-n-next.true)
     -- field::multiply(scale, weight(t, next))
-    (λ c κs. let start : tie.Start = search in (search rules, search rules, omega (arith, start.pre.2)))
+    (λ c κs. let start : tie.Start = search in (search rules, search rules, omega (arith, start.requires.2)))
     (λ c κs. tt)
     (λ c.
-    let (start, more, own) : tie.Start × tie.Else1 × tie.After-weight = (search, search, search) in
-    by_next _ _ _ _ refl more.if1.left _ _ _ start.pre.2 own.weight.ensures c.multiply.ensures))
+    let (start, more, own) : tie.Start × tie.Else-n-next × tie.After-weight = (search, search, search) in
+    by_next _ _ _ _ refl more.if-n-next.false _ _ _ start.requires.2 own.weight.ensures c.multiply.ensures))

@@ -19,6 +19,6 @@ add_vote_spec =
     -- Vote::Unread => ..
     (λ c. search rules)
     (λ c. search rules)
-    (λ c. let (start, told) : tie.Start × tie.After-enum-told = (search, search) in adds_accepted _ start.args.vote _ told.enum_told.given.1 _ c.with.ensures)
-    (λ c. let start : tie.Start = search in adds_mismatched _ start.args.vote _ c.enum_told2.given.1)
-    (λ c. let start : tie.Start = search in adds_unread _ start.args.vote _ c.enum_told3.given.1))
+    (λ c. let (start, told) : tie.Start × tie.In-Accepted = (search, search) in adds_accepted _ start.args.vote _ told.in-Accepted.is _ c.with.ensures)
+    (λ c. let start : tie.Start = search in adds_mismatched _ start.args.vote _ c.in-Mismatched.is)
+    (λ c. let start : tie.Start = search in adds_unread _ start.args.vote _ c.in-Unread.is))

@@ -26,5 +26,5 @@ expect_spec =
     (λ c κs. search rules)
     (λ c. search rules)
     (λ c.
-    let (start, keys, own, tags) : tie.Start × tie.After-gather-keys × tie.After-words-at × tie.After-tags-with-first = (search, search, search, search) in
-    tags_expected _ _ start.pre.0 _ _ _ _ _ _ own.words_at_lem.ensures keys.gather_keys.ensures tags.tags_with_first.ensures))
+    let (start, keys, own, tags) : tie.Start × tie.After-gather_keys × tie.After-words_at-own × tie.After-tags_with_first = (search, search, search, search) in
+    tags_expected _ _ start.requires.0 _ _ _ _ _ _ own.words_at-own.ensures keys.gather_keys.ensures tags.tags_with_first.ensures))

@@ -11,7 +11,7 @@ expect_usable_spec =
     (tie.spec
     -- if !members::has(able, i) { return }
     (λ c κs. search rules)
-    (λ c usable. let (asked, not-usable) : tie.After-has × tie.Then1 = (search, search) in absurd (clash usable (fails _ _ asked.has.ensures not-usable.if1.taken)))
+    (λ c usable. let (asked, not-usable) : tie.After-has × tie.Then-not-has = (search, search) in absurd (clash usable (fails _ _ asked.has.ensures not-usable.if-not-has.true-raw)))
     -- expect(s, day, shares, i, tags)
     (λ c κs. search rules)
     (λ c. search rules)

@@ -43,14 +43,14 @@ last s words i alphas betas k done t =
       β_of = λ j b. t.betas_so_far.so_far j (omega arith);
     }
 
-abbrev invariant_loop : tie.invariant_loop
+abbrev invariant_loop : tie.invariant-loop-k
 invariant_loop s shares i alphas₀ betas₀ k₀ alphas betas k = Turn s shares i alphas betas k
 
-abbrev decreases_loop : tie.decreases_loop
+abbrev decreases_loop : tie.decreases-loop-k
 decreases_loop s shares i alphas₀ betas₀ k₀ alphas betas k = s.n - k
 
 abbrev Loop : Type 0
-Loop = tie.At-loop invariant_loop decreases_loop
+Loop = tie.At-loop-k invariant_loop decreases_loop
 
 pub gather_keys_spec : {M : Type 1} → statement M
 gather_keys_spec =
@@ -65,17 +65,17 @@ gather_keys_spec =
     (λ c. omega arith)
     (λ c. omega arith)
     (λ c. omega arith)
-    (λ c. let loop : Loop = search in omega (arith, loop.loop.inv.alphas_so_far.long))
+    (λ c. let loop : Loop = search in omega (arith, loop.loop-k.invariant.alphas_so_far.long))
     -- betas[k] = shares[key + 1]
     (λ c. omega arith)
     (λ c. omega arith)
     (λ c. omega arith)
     (λ c. omega arith)
-    (λ c. let loop : Loop = search in omega (arith, loop.loop.inv.betas_so_far.long))
+    (λ c. let loop : Loop = search in omega (arith, loop.loop-k.invariant.betas_so_far.long))
     -- k = k + 1
     (λ c. omega arith)
     (λ c. omega arith)
     (λ c. search next)
-    (λ c. let loop : Loop = search in omega (arith, loop.loop.inv.alphas_so_far.long))
-    (λ c. let loop : Loop = search in omega (arith, loop.loop.inv.betas_so_far.long))
+    (λ c. let loop : Loop = search in omega (arith, loop.loop-k.invariant.alphas_so_far.long))
+    (λ c. let loop : Loop = search in omega (arith, loop.loop-k.invariant.betas_so_far.long))
     (λ c. search last))

@@ -8,10 +8,10 @@ use Rattle.voting.proofs.Rows.{Counting, counting_first, counting_room, counting
 use Rattle.voting.proofs.row_singly.Statement.{statement}
 use Rattle.voting.proofs.row_singly.Tie as tie
 
-abbrev invariant_loop : tie.invariant_loop
+abbrev invariant_loop : tie.invariant-loop-j
 invariant_loop s day able shares i at₀ j₀ at j = Counting (λ k. vote s.t s.d day able shares k i) s.n at j
 
-abbrev decreases_loop : tie.decreases_loop
+abbrev decreases_loop : tie.decreases-loop-j
 decreases_loop s day able shares i at₀ j₀ at j = s.n - j
 
 pub row_singly_spec : {M : Type 1} → statement M
@@ -26,12 +26,12 @@ row_singly_spec =
     (λ c. search counting_first)
     -- while j < s.n { at = add_vote(at, test_single(s, day, able, shares, i, j), j); j = j + 1 }
     (λ c κs. search rules)
-    (λ c κs. let loop : tie.At-loop invariant_loop decreases_loop = search in counting_room _ _ _ _ (omega arith) (omega arith) loop.loop.inv)
+    (λ c κs. let loop : tie.At-loop-j invariant_loop decreases_loop = search in counting_room _ _ _ _ (omega arith) (omega arith) loop.loop-j.invariant)
     (λ c. omega arith)
     (λ c. omega arith)
     (λ c. search counting_next)
     (λ c.
-    let (start, loop) : tie.Start invariant_loop decreases_loop × tie.At-loop invariant_loop decreases_loop = (search, search) in (
-      counted_row _ _ _ _ _ (omega arith) start.pre.0.station.members loop.loop.inv,
-      counted-kinds _ _ _ _ _ (omega arith) start.pre.0.station.members loop.loop.inv,
+    let (start, loop) : tie.Start invariant_loop decreases_loop × tie.At-loop-j invariant_loop decreases_loop = (search, search) in (
+      counted_row _ _ _ _ _ (omega arith) start.requires.0.station.members loop.loop-j.invariant,
+      counted-kinds _ _ _ _ _ (omega arith) start.requires.0.station.members loop.loop-j.invariant,
     )))

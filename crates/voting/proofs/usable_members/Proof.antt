@@ -10,10 +10,10 @@ use Rattle.voting.specs.Votes.{field_share, usable}
 use Rattle.voting.proofs.usable_members.Statement.{statement}
 use Rattle.voting.proofs.usable_members.Tie as tie
 
-abbrev invariant_loop : tie.invariant_loop
+abbrev invariant_loop : tie.invariant-loop-i
 invariant_loop s present shares set₀ i₀ set i = Taken (λ k. has present k && field_share s.t s.d shares k) s.n set i
 
-abbrev decreases_loop : tie.decreases_loop
+abbrev decreases_loop : tie.decreases-loop-i
 decreases_loop s present shares set₀ i₀ set i = s.n - i
 
 pub usable_members_spec : {M : Type 1} → statement M

@@ -1,0 +1,8 @@
+-- The line is the letter D, t, d, the quorum and the day.
+-- Assumes nothing.
+use Rattle.lists.specs.Ascii.{ascii}
+use Rattle.handin.proofs.first_length.Goals as goal
+
+pub returns : goal.returns
+unfolding ascii
+returns c = c.list_length.ensures
