@@ -9,10 +9,10 @@ use Rattle.shares.proofs.Reading.{share-word_at}
 use Rattle.reconstruction.proofs.column.Statement.{statement}
 use Rattle.reconstruction.proofs.column.Tie as tie
 
-abbrev invariant_loop : tie.invariant_loop
+abbrev invariant_loop : tie.invariant-loop-i
 invariant_loop s shares k values₀ i₀ values i = Filled (λ m. share_word s.t s.d shares m k) s.n values i
 
-abbrev decreases_loop : tie.decreases_loop
+abbrev decreases_loop : tie.decreases-loop-i
 decreases_loop s shares k values₀ i₀ values i = s.n - i
 
 -- the places of the code that the answers below name
@@ -20,7 +20,7 @@ abbrev Start : Type 0
 Start = tie.Start invariant_loop decreases_loop
 
 abbrev Loop : Type 0
-Loop = tie.At-loop invariant_loop decreases_loop
+Loop = tie.At-loop-i invariant_loop decreases_loop
 
 pub column_spec : {M : Type 1} → statement M
 column_spec =
@@ -40,7 +40,7 @@ column_spec =
     (λ c. omega arith)
     (λ c. omega arith)
     (λ c.
-    let (start, loop, placed) : Start × Loop × tie.After-word-at invariant_loop decreases_loop = (search, search, search) in
-    filled_next _ _ _ _ _ (omega arith) loop.loop.inv (share-word_at _ _ start.pre.0 _ _ _ placed.word_at.ensures))
+    let (start, loop, placed) : Start × Loop × tie.After-word_at-at invariant_loop decreases_loop = (search, search, search) in
+    filled_next _ _ _ _ _ (omega arith) loop.loop-i.invariant (share-word_at _ _ start.requires.0 _ _ _ placed.word_at-at.ensures))
     (λ c. omega arith)
-    (λ c. let loop : Loop = search in filled_last _ _ _ _ (omega arith) loop.loop.inv))
+    (λ c. let loop : Loop = search in filled_last _ _ _ _ (omega arith) loop.loop-i.invariant))

@@ -17,5 +17,5 @@ decode_word_spec =
     (λ c. search rules)
     (λ c.
     let (start, filled, decoded) : tie.Start × tie.After-column × tie.After-decode = (search, search, search) in
-    decodes _ _ start.pre.0 _ start.pre.1.0 _ start.pre.1.1.0 _ filled.column.ensures _ start.pre.1.1.2
+    decodes _ _ start.requires.0 _ start.requires.1.0 _ start.requires.1.1.0 _ filled.column.ensures _ start.requires.1.1.2
     decoded.decode.result _ decoded.decode.ensures))

@@ -8,10 +8,10 @@ use Rattle.polynomial.specs.Polynomial.{value}
 use Rattle.reconstruction.proofs.evaluate_all.Statement.{statement}
 use Rattle.reconstruction.proofs.evaluate_all.Tie as tie
 
-abbrev invariant_loop : tie.invariant_loop
+abbrev invariant_loop : tie.invariant-loop-x
 invariant_loop f expected₀ x₀ expected x = Filled (value f) (length expected₀) expected x
 
-abbrev decreases_loop : tie.decreases_loop
+abbrev decreases_loop : tie.decreases-loop-x
 decreases_loop f expected₀ x₀ expected x = length expected₀ - x
 
 pub evaluate_all_spec : {M : Type 1} → statement M
@@ -30,7 +30,7 @@ evaluate_all_spec =
     (λ c. omega arith)
     (λ c. omega arith)
     (λ c.
-    let (loop, valued) : tie.At-loop invariant_loop decreases_loop × tie.After-evaluate invariant_loop decreases_loop = (search, search) in
-    filled_next _ _ _ _ _ (omega arith) loop.loop.inv valued.evaluate.ensures)
+    let (loop, valued) : tie.At-loop-x invariant_loop decreases_loop × tie.After-evaluate invariant_loop decreases_loop = (search, search) in
+    filled_next _ _ _ _ _ (omega arith) loop.loop-x.invariant valued.evaluate.ensures)
     (λ c. omega arith)
-    (λ c. let loop : tie.At-loop invariant_loop decreases_loop = search in filled_last _ _ _ _ (omega arith) loop.loop.inv))
+    (λ c. let loop : tie.At-loop-x invariant_loop decreases_loop = search in filled_last _ _ _ _ (omega arith) loop.loop-x.invariant))

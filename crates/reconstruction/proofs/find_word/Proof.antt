@@ -18,8 +18,8 @@ find_word_spec =
     (λ c κs. search rules)
     -- return work_out_word(s, shares, at, f, expected)
     (λ c κs.
-    let (start, read) : tie.Start × tie.After-read-word = (search, search) in
-    (search rules, (search rules, (search rules, omega (arith, read.read_word.kept), omega (arith, read.read_word.kept)))))
+    let (start, read) : tie.Start × tie.After-read_word-met = (search, search) in
+    (search rules, (search rules, (search rules, omega (arith, read.read_word-met.auto), omega (arith, read.read_word-met.auto)))))
     (λ c. search rules)
     (λ c. search rules)
     (λ c. search rules)
@@ -28,6 +28,6 @@ find_word_spec =
     (λ c. search rules)
     (λ c. search rules)
     (λ c.
-    let (start, read, agreeing, few, left) : tie.Start × tie.After-read-word × tie.After-both × tie.After-too-few × tie.Else1 = (search, search, search, search, search) in
-    came_read _ _ start.pre.0 _ start.pre.1.0 _ start.pre.1.1.1.0 _ _ (omega arith) (omega (arith, read.read_word.kept))
-    read.read_word.ensures.0 read.read_word.ensures.1 agreeing.both.ensures few.too_few.ensures left.if1.left))
+    let (start, read, agreeing, few, left) : tie.Start × tie.After-read_word-met × tie.After-both-agreeing × tie.After-too_few × tie.Else-too_few = (search, search, search, search, search) in
+    came_read _ _ start.requires.0 _ start.requires.1.0 _ start.requires.1.1.1.0 _ _ (omega arith) (omega (arith, read.read_word-met.auto))
+    read.read_word-met.ensures.0 read.read_word-met.ensures.1 agreeing.both-agreeing.ensures few.too_few.ensures left.if-too_few.false))

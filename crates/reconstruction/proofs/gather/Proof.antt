@@ -11,10 +11,10 @@ use Rattle.shares.proofs.Reading.{share-word_at}
 use Rattle.reconstruction.proofs.gather.Statement.{statement}
 use Rattle.reconstruction.proofs.gather.Tie as tie
 
-abbrev invariant_loop : tie.invariant_loop
+abbrev invariant_loop : tie.invariant-loop-m
 invariant_loop s shares k points words₀ m₀ words m = Filled (λ j. share_word s.t s.d shares (get_or points j 0 - 1) k) (length points) words m
 
-abbrev decreases_loop : tie.decreases_loop
+abbrev decreases_loop : tie.decreases-loop-m
 decreases_loop s shares k points words₀ m₀ words m = length points - m
 
 -- the places of the code that the answers below name
@@ -22,16 +22,16 @@ abbrev Start : Type 0
 Start = tie.Start invariant_loop decreases_loop
 
 abbrev Loop : Type 0
-Loop = tie.At-loop invariant_loop decreases_loop
+Loop = tie.At-loop-m invariant_loop decreases_loop
 
 abbrev In : Type 0
-In = tie.In-loop invariant_loop decreases_loop
+In = tie.In-loop-m invariant_loop decreases_loop
 
-low : (c : In) → let (start, loop) : Start × Loop = (search, search) in 1 ≤ get_or start.args.points.now loop.loop.m 0
-low c = let (start, loop) : Start × Loop = (search, search) in start.pre.1.0.low loop.loop.m (omega arith)
+low : (c : In) → let (start, loop) : Start × Loop = (search, search) in 1 ≤ get_or start.args.points.now loop.loop-m.m 0
+low c = let (start, loop) : Start × Loop = (search, search) in start.requires.1.0.low loop.loop-m.m (omega arith)
 
-high : (c : In) → let (start, loop) : Start × Loop = (search, search) in get_or start.args.points.now loop.loop.m 0 ≤ start.args.s.n
-high c = let (start, loop) : Start × Loop = (search, search) in start.pre.1.0.high loop.loop.m (omega arith)
+high : (c : In) → let (start, loop) : Start × Loop = (search, search) in get_or start.args.points.now loop.loop-m.m 0 ≤ start.args.s.n
+high c = let (start, loop) : Start × Loop = (search, search) in start.requires.1.0.high loop.loop-m.m (omega arith)
 
 pub gather_spec : {M : Type 1} → statement M
 gather_spec =
@@ -55,7 +55,7 @@ gather_spec =
     (λ c. omega arith)
     (λ c. omega arith)
     (λ c.
-    let (start, loop, placed) : Start × Loop × tie.After-word-at invariant_loop decreases_loop = (search, search, search) in
-    filled_next _ _ _ _ _ (omega arith) loop.loop.inv (share-word_at _ _ start.pre.0 _ _ _ placed.word_at.ensures))
+    let (start, loop, placed) : Start × Loop × tie.After-word_at-at invariant_loop decreases_loop = (search, search, search) in
+    filled_next _ _ _ _ _ (omega arith) loop.loop-m.invariant (share-word_at _ _ start.requires.0 _ _ _ placed.word_at-at.ensures))
     (λ c. omega arith)
-    (λ c. let loop : Loop = search in filled_last _ _ _ _ (omega arith) loop.loop.inv))
+    (λ c. let loop : Loop = search in filled_last _ _ _ _ (omega arith) loop.loop-m.invariant))

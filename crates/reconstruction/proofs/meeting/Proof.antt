@@ -14,14 +14,14 @@ use Rattle.members.proofs.Taken.{Taken, taken_first, taken_next, taken_last}
 use Rattle.reconstruction.proofs.meeting.Statement.{statement}
 use Rattle.reconstruction.proofs.meeting.Tie as tie
 
-abbrev invariant_loop : tie.invariant_loop
+abbrev invariant_loop : tie.invariant-loop-i
 invariant_loop s shares k expected set₀ i₀ set i = Taken (λ j. eqb (get_or expected (j + 1) 0) (share_word s.t s.d shares j k)) s.n set i
 
-abbrev decreases_loop : tie.decreases_loop
+abbrev decreases_loop : tie.decreases-loop-i
 decreases_loop s shares k expected set₀ i₀ set i = s.n - i
 
 abbrev Loop : Type 0
-Loop = tie.At-loop invariant_loop decreases_loop
+Loop = tie.At-loop-i invariant_loop decreases_loop
 
 taken_one : (a b w set i r : ℕ) → w ≡ b → r ≡ cond (eqb a w) (adding set i) set → r ≡ cond (eqb a b) (adding set i) set
 taken_one a b w set i r e h = h ∙ ap (λ (x : ℕ). cond (eqb a x) (adding set i) set) e
@@ -46,8 +46,8 @@ meeting_spec =
     (λ c. omega arith)
     (λ c. omega arith)
     (λ c.
-    let (start, loop, placed, taken) : tie.Start invariant_loop decreases_loop × Loop × tie.After-word-at invariant_loop decreases_loop × tie.After-with-if invariant_loop decreases_loop
+    let (start, loop, placed, taken) : tie.Start invariant_loop decreases_loop × Loop × tie.After-word_at-at invariant_loop decreases_loop × tie.After-with_if-set invariant_loop decreases_loop
     = (search, search, search, search) in
-    taken_next _ _ _ _ _ (omega arith) (omega arith) loop.loop.inv
-    (taken_one _ _ _ _ _ _ (share-word_at _ _ start.pre.0 _ _ _ placed.word_at.ensures) taken.with_if.ensures))
-    (λ c. let loop : Loop = search in taken_last _ _ _ _ _ (omega arith) refl loop.loop.inv))
+    taken_next _ _ _ _ _ (omega arith) (omega arith) loop.loop-i.invariant
+    (taken_one _ _ _ _ _ _ (share-word_at _ _ start.requires.0 _ _ _ placed.word_at-at.ensures) taken.with_if-set.ensures))
+    (λ c. let loop : Loop = search in taken_last _ _ _ _ _ (omega arith) refl loop.loop-i.invariant))

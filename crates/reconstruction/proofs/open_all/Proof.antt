@@ -16,20 +16,20 @@ open_all_spec =
     -- if done == s.d { return Outcome::Open { survivors: survived, agreeing: survived } }
     (λ c. search rules)
     (λ c.
-    let (start, quick) : tie.Start × tie.After-open-quickly = (search, search) in
-    opening_last start.pre.0 start.pre.1.0
-    (opening_begun start.pre.0 start.pre.1.0 (omega (arith, quick.open_quickly.kept))
-    (quick_begun start.pre.0 start.pre.1.0 _ _ _ quick.open_quickly.ensures.1 start.pre.1.1 quick.open_quickly.ensures.0))
+    let (start, quick) : tie.Start × tie.After-open_quickly-done = (search, search) in
+    opening_last start.requires.0 start.requires.1.0
+    (opening_begun start.requires.0 start.requires.1.0 (omega (arith, quick.open_quickly-done.auto))
+    (quick_begun start.requires.0 start.requires.1.0 _ _ _ quick.open_quickly-done.ensures.1 start.requires.1.1 quick.open_quickly-done.ensures.0))
     (omega arith))
     -- open_left(s, shares, Progress { survived, done }, secret)
     (λ c κs.
-    let (start, quick) : tie.Start × tie.After-open-quickly = (search, search) in (
-      start.pre.0,
+    let (start, quick) : tie.Start × tie.After-open_quickly-done = (search, search) in (
+      start.requires.0,
       (
-        start.pre.1.0,
+        start.requires.1.0,
         (
           search rules,
-          quick_begun start.pre.0 start.pre.1.0 _ _ _ quick.open_quickly.ensures.1 start.pre.1.1 quick.open_quickly.ensures.0,
+          quick_begun start.requires.0 start.requires.1.0 _ _ _ quick.open_quickly-done.ensures.1 start.requires.1.1 quick.open_quickly-done.ensures.0,
         ),
       ),
     ))

@@ -22,6 +22,6 @@ open_left_spec =
     -- open_prepared(..)
     (λ c κs.
     let start : tie.Start = search in
-    (start.pre.0, (start.pre.1.0, ((length-take-le _ _ (omega arith) ∙ add-one _, refl, start.pre.1.1.0), start.pre.1.1.1))))
+    (start.requires.0, (start.requires.1.0, ((length-take-le _ _ (omega arith) ∙ add-one _, refl, start.requires.1.1.0), start.requires.1.1.1))))
     (λ c. search rules)
     (λ c. search rules))

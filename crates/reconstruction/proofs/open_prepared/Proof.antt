@@ -13,20 +13,20 @@ open_prepared_spec =
     -- prepare(s.n, at.survived, points, matrix)
     (λ c κs.
     let start : tie.Start = search in
-    let begun = opening_begun start.pre.0 start.pre.1.0 start.pre.1.1.0.2 start.pre.1.1.1 in (
+    let begun = opening_begun start.requires.0 start.requires.1.0 start.requires.1.1.0.2 start.requires.1.1.1 in (
       omega arith,
-      opening-set start.pre.0 start.pre.1.0 begun,
-      opening_enough start.pre.0 start.pre.1.0 begun start.pre.1.1.0.0,
+      opening-set start.requires.0 start.requires.1.0 begun,
+      opening_enough start.requires.0 start.requires.1.0 begun start.requires.1.1.0.0,
       omega arith,
       search rules,
     ))
     -- open_words(s, shares, at, points, matrix, secret)
     (λ c κs.
     let (start, prepared) : tie.Start × tie.After-prepare = (search, search) in (
-      start.pre.0,
+      start.requires.0,
       (
-        start.pre.1.0,
-        ((omega (arith, prepared.prepare.kept), search rules), ((prepared.prepare.ensures.0, prepared.prepare.ensures.1), start.pre.1.1.1)),
+        start.requires.1.0,
+        ((omega (arith, prepared.prepare.auto), search rules), ((prepared.prepare.ensures.0, prepared.prepare.ensures.1), start.requires.1.1.1)),
       ),
     ))
     (λ c. search rules)

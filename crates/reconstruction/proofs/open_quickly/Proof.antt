@@ -13,11 +13,11 @@ open_quickly_spec =
     (λ c κs. search rules)
     -- if survived != all { return 0 }
     (λ c.
-    let (start, all) : tie.Start × tie.After-first = (search, search) in
-    (not-quickly start.args.s _ _ _ all.first.ensures c.if1.true, none_opened _ _ _))
+    let (start, all) : tie.Start × tie.After-first-all = (search, search) in
+    (not-quickly start.args.s _ _ _ all.first-all.ensures c.if-survived-all.true, none_opened _ _ _))
     -- parity::look(s, shares, secret)
     (λ c κs. search rules)
     (λ c. search rules)
     (λ c.
-    let (start, all, whole) : tie.Start × tie.After-first × tie.Else1 = (search, search, search) in
-    (all-quickly start.args.s _ _ _ _ all.first.ensures whole.if1.left (search rules), search rules)))
+    let (start, all, whole) : tie.Start × tie.After-first-all × tie.Else-survived-all = (search, search, search) in
+    (all-quickly start.args.s _ _ _ _ all.first-all.ensures whole.if-survived-all.false (search rules), search rules)))

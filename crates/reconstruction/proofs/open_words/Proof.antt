@@ -13,11 +13,11 @@ use Rattle.reconstruction.proofs.AllWords.{Going, opening_begun, opening_none, o
 use Rattle.reconstruction.proofs.open_words.Statement.{statement}
 use Rattle.reconstruction.proofs.open_words.Tie as tie
 
-abbrev invariant_loop : tie.invariant_loop
+abbrev invariant_loop : tie.invariant-loop-k
 invariant_loop s shares points₀ matrix₀ secret₀ survived agreed₀ k₀ points matrix secret agreed k =
     Going (own_points s.t) s.t s.d (share_word s.t s.d shares) survived agreed secret k × (length points ≡ suc s.t) × Chosen s.n points × Rows s.n points matrix
 
-abbrev decreases_loop : tie.decreases_loop
+abbrev decreases_loop : tie.decreases-loop-k
 decreases_loop s shares points₀ matrix₀ secret₀ survived agreed₀ k₀ points matrix secret agreed k = s.d - k
 
 -- the places of the code that the answers below name
@@ -25,39 +25,39 @@ abbrev Start : Type 0
 Start = tie.Start invariant_loop decreases_loop
 
 abbrev Loop : Type 0
-Loop = tie.At-loop invariant_loop decreases_loop
+Loop = tie.At-loop-k invariant_loop decreases_loop
 
 abbrev Turn : Type 0
-Turn = tie.Then1 invariant_loop decreases_loop
+Turn = tie.In-loop-k invariant_loop decreases_loop
 
 abbrev Opened : Type 0
-Opened = tie.After-open-word invariant_loop decreases_loop
+Opened = tie.After-open_word-word invariant_loop decreases_loop
 
 abbrev Found : Type 0
-Found = tie.Else2 invariant_loop decreases_loop
+Found = tie.Else-word-ne0 invariant_loop decreases_loop
 
 abbrev Left : Type 0
-Left = tie.After-both invariant_loop decreases_loop
+Left = tie.After-both-agreed invariant_loop decreases_loop
 
 abbrev Counted : Type 0
-Counted = tie.After-too-few invariant_loop decreases_loop
+Counted = tie.After-too_few invariant_loop decreases_loop
 
 -- the points and the matrix are as long as they were
-kept_points : (c : Loop) → let start : Start = search in length c.loop.points ≡ length start.args.points.now
-kept_points c = let start : Start = search in c.loop.invariant.1 ∙ sym start.pre.1.1.0.0
+kept_points : (c : Loop) → let start : Start = search in length c.loop-k.points ≡ length start.args.points.now
+kept_points c = let start : Start = search in c.loop-k.invariant.1 ∙ sym start.requires.1.1.0.0
 
-kept_matrix : (c : Loop) → let start : Start = search in length c.loop.matrix ≡ length start.args.matrix.now
-kept_matrix c = let start : Start = search in c.loop.invariant.3.long ∙ sym start.pre.1.1.1.0.1.long
+kept_matrix : (c : Loop) → let start : Start = search in length c.loop-k.matrix ≡ length start.args.matrix.now
+kept_matrix c = let start : Start = search in c.loop-k.invariant.3.long ∙ sym start.requires.1.1.1.0.1.long
 
 -- enough are left, and the value at 0 is stored
-next : (c : tie.Else3 invariant_loop decreases_loop)
+next : (c : tie.Else-too_few invariant_loop decreases_loop)
     → let (start, loop, opened, left) : Start × Loop × Opened × Left = (search, search, search, search) in
     Going (own_points start.args.s.t) start.args.s.t start.args.s.d (share_word start.args.s.t start.args.s.d start.args.shares.now) start.args.at.survived
-    left.both.result (set loop.loop.secret loop.loop.k opened.open_word.result.value) (loop.loop.k + 1)
+    left.both-agreed.result (set loop.loop-k.secret loop.loop-k.k opened.open_word-word.result.value) (loop.loop-k.k + 1)
 next c =
     let (start, loop, turn, opened, found, left, few) : Start × Loop × Turn × Opened × Found × Left × Counted = (search, search, search, search, search, search, search) in
-    opening_next start.pre.0 start.pre.1.0 loop.loop.inv.0 turn.if1.taken opened.open_word.ensures found.if2.left left.both.ensures
-    few.too_few.ensures c.if3.false refl
+    opening_next start.requires.0 start.requires.1.0 loop.loop-k.invariant.0 turn.loop-k-test.true opened.open_word-word.ensures found.if-word-ne0.false left.both-agreed.ensures
+    few.too_few.ensures c.if-too_few.false refl
 
 pub open_words_spec : {M : Type 1} → statement M
 open_words_spec =
@@ -70,7 +70,7 @@ open_words_spec =
     -- let word = open_word(s, shares, Progress { survived, done: k }, points, matrix)
     (λ c κs.
     let (start, loop, turn) : Start × Loop × Turn = (search, search, search) in
-    (start.pre.0, (start.pre.1.0, ((loop.loop.inv.2, loop.loop.inv.3), (turn.if1.taken, loop.loop.inv.1)))))
+    (start.requires.0, (start.requires.1.0, ((loop.loop-k.invariant.2, loop.loop-k.invariant.3), (turn.loop-k-test.true, loop.loop-k.invariant.1)))))
     -- if word.number != 0 { return refuse(secret, word.number, survived) }
     (λ c κs. tt)
     (λ c. omega arith)
@@ -88,31 +88,32 @@ open_words_spec =
     (λ c. let loop : Loop = search in kept_points loop)
     (λ c. let loop : Loop = search in kept_matrix loop)
     (λ c.
-    let (start, loop, refused) : Start × Loop × tie.After-refuse2 invariant_loop decreases_loop = (search, search, search) in
-    omega (arith, simp length-set at refused.refuse2.kept.0))
+    let (start, loop, refused) : Start × Loop × tie.After-refuse-then-too_few invariant_loop decreases_loop = (search, search, search) in
+    omega (arith, simp length-set at refused.refuse-then-too_few.auto.secret))
     (λ c.
-    let (start, loop, turn, opened, found, left, few, taken, refused) : Start × Loop × Turn × Opened × Found × Left × Counted × tie.Then3 invariant_loop decreases_loop × tie.After-refuse2 invariant_loop decreases_loop
+    let (start, loop, turn, opened, found, left, few, taken, refused) : Start × Loop × Turn × Opened × Found × Left × Counted × tie.Then-too_few invariant_loop decreases_loop × tie.After-refuse-then-too_few invariant_loop decreases_loop
     = (search, search, search, search, search, search, search, search, search) in
-    opening_few start.pre.0 start.pre.1.0 loop.loop.inv.0 turn.if1.taken opened.open_word.ensures found.if2.left left.both.ensures
-    few.too_few.ensures taken.if3.taken _ refused.refuse2.ensures)
-    -- renew(word.anew, s.n, agreed, points, matrix)
+    opening_few start.requires.0 start.requires.1.0 loop.loop-k.invariant.0 turn.loop-k-test.true opened.open_word-word.ensures found.if-word-ne0.false left.both-agreed.ensures
+    few.too_few.ensures taken.if-too_few.true _ refused.refuse-then-too_few.ensures)
+    -- renew(word.anew, k + 1 < s.d, s.n, agreed, points, matrix)
+    (λ c. let (start, turn) : Start × Turn = (search, search) in omega (arith, turn.loop-k-test.true, start.requires.0.station.range.d_high))
     (λ c κs.
-    let (start, loop, more) : Start × Loop × tie.Else3 invariant_loop decreases_loop = (search, search, search) in (
+    let (start, loop, more) : Start × Loop × tie.Else-too_few invariant_loop decreases_loop = (search, search, search) in (
       (
-        start.pre.0.station.few,
-        opening-set start.pre.0 start.pre.1.0 (next more),
-        opening_enough start.pre.0 start.pre.1.0 (next more) loop.loop.inv.1,
-        omega (arith, loop.loop.inv.1, start.pre.0.station.range.t_high),
-        loop.loop.inv.3.long,
+        start.requires.0.station.few,
+        opening-set start.requires.0 start.requires.1.0 (next more),
+        opening_enough start.requires.0 start.requires.1.0 (next more) loop.loop-k.invariant.1,
+        omega (arith, loop.loop-k.invariant.1, start.requires.0.station.range.t_high),
+        loop.loop-k.invariant.3.long,
       ),
-      (loop.loop.inv.2, loop.loop.inv.3),
+      (loop.loop-k.invariant.2, loop.loop-k.invariant.3),
     ))
     -- k = k + 1
-    (λ c. let (start, turn) : Start × Turn = (search, search) in omega (arith, turn.if1.taken, start.pre.0.station.range.d_high))
-    (λ c. let turn : Turn = search in omega (arith, turn.if1.taken))
+    (λ c. let (start, turn) : Start × Turn = (search, search) in omega (arith, turn.loop-k-test.true, start.requires.0.station.range.d_high))
+    (λ c. let turn : Turn = search in omega (arith, turn.loop-k-test.true))
     (λ c.
-    let (loop, more, renewed) : Loop × tie.Else3 invariant_loop decreases_loop × tie.After-renew invariant_loop decreases_loop = (search, search, search) in
-    (next more, omega (arith, renewed.renew.kept, loop.loop.inv.1), renewed.renew.ensures.0, renewed.renew.ensures.1))
+    let (loop, more, renewed) : Loop × tie.Else-too_few invariant_loop decreases_loop × tie.After-renew invariant_loop decreases_loop = (search, search, search) in
+    (next more, omega (arith, renewed.renew.auto, loop.loop-k.invariant.1), renewed.renew.ensures.0, renewed.renew.ensures.1))
     -- Outcome::Open { survivors: survived, agreeing: agreed }
     (λ c. let loop : Loop = search in kept_points loop)
     (λ c. let loop : Loop = search in kept_matrix loop)

@@ -20,4 +20,4 @@ read_word_spec =
     (λ c. search rules)
     (λ c.
     let (start, gathered, expected) : tie.Start × tie.After-gather × tie.After-expect = (search, search, search) in
-    (read_off _ _ _ _ _ _ start.pre.1.0.1 (omega (arith, gathered.gather.kept)) (omega arith) expected.expect.ensures, search rules)))
+    (read_off _ _ _ _ _ _ start.requires.1.0.1 (omega (arith, gathered.gather.auto)) (omega arith) expected.expect.ensures, search rules)))

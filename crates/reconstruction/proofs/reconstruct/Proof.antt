@@ -9,14 +9,14 @@ use Rattle.reconstruction.proofs.reconstruct.Statement.{statement}
 use Rattle.reconstruction.proofs.reconstruct.Tie as tie
 
 -- t and d have passed
-passed : (c : tie.Else2) → let start : tie.Start = search in InRange start.args.t (length start.args.secret.now)
+passed : (c : tie.Else-not-within) → let start : tie.Start = search in InRange start.args.t (length start.args.secret.now)
 passed c =
-    let (at_threshold, at_if1, at_within) : tie.After-threshold × tie.Else1 × tie.After-within = (search, search, search) in
-    ranged _ _ _ at_threshold.threshold.ensures at_if1.if1.left _ at_within.within.ensures c.if2.false
+    let (at_threshold, at_if1, at_within) : tie.After-threshold × tie.Else-not-threshold × tie.After-within = (search, search, search) in
+    ranged _ _ _ at_threshold.threshold.ensures at_if1.if-not-threshold.false-raw _ at_within.within.ensures c.if-not-within.false-raw
 
 -- the shape is a station's
-station : (c : tie.After-shape-of) → Station c.shape_of.result
-station c = let both : tie.Else2 = search in shape_station _ _ _ c.shape_of.ensures (passed both)
+station : (c : tie.After-shape_of-s) → Station c.shape_of-s.result
+station c = let both : tie.Else-not-within = search in shape_station _ _ _ c.shape_of-s.ensures (passed both)
 
 pub reconstruct_spec : {M : Type 1} → statement M
 reconstruct_spec =
@@ -40,7 +40,7 @@ reconstruct_spec =
     -- let s = shares::shape_of(t, d)
     (λ c κs. passed (search))
     -- if shares.len() != s.n * s.width { return turn_away(secret, 11) }
-    (λ c. let made : tie.After-shape-of = search in omega (arith, (station made).all_fit))
+    (λ c. let made : tie.After-shape_of-s = search in omega (arith, (station made).all_fit))
     (λ c κs. search rules)
     (λ c. search rules)
     (λ c. search refused_11)
