@@ -19,16 +19,16 @@ open_words_spec =
     tie.close
     (tie.spec
     -- let count = s.n * s.width;
-    (λ c. let entry : tie.Start = search in omega (arith, entry.pre.0.all_fit))
+    (λ c. let entry : tie.Start = search in omega (arith, entry.requires.0.all_fit))
     -- open_shares(s.t, day, present, quorum, &words[..count], &mut secret[..d], output)
     (λ c.
     let entry : tie.Start = search in
-    sym (length-take-le _ entry.args.words.now (omega (arith, entry.pre.1.0, entry.pre.0.all_fit))))
+    sym (length-take-le _ entry.args.words.now (omega (arith, entry.requires.1.0, entry.requires.0.all_fit))))
     (λ c. search room)
     (λ c. let entry : tie.Start = search in sym (length-take-le _ entry.args.secret.now (room entry)))
     (λ c κs.
     let entry : tie.Start = search in
-    (omega (arith, length-take-le entry.args.s.d entry.args.secret.now (room entry), entry.pre.0.range.d_high), search rules))
+    (omega (arith, length-take-le entry.args.s.d entry.args.secret.now (room entry), entry.requires.0.range.d_high), search rules))
     (λ c. search rules)
     (λ c. search rules)
     (λ c. search (opens_front, room)))

@@ -14,8 +14,8 @@ put_open_spec =
     (λ c κs. search rules)
     -- put_words(secret, output, end)
     (λ c κs.
-    let (entry, first) : tie.Start × tie.After-put-open-line = (search, search) in
+    let (entry, first) : tie.Start × tie.After-put_open_line-end = (search, search) in
     let short = open_short entry.args.survivors entry.args.agreeing (omega arith) (omega arith) in
-    (search rules, omega (arith, entry.pre.0, entry.pre.1, short, first.put_open_line.ensures.next, written-length first.put_open_line.ensures)))
+    (search rules, omega (arith, entry.requires.0, entry.requires.1, short, first.put_open_line-end.ensures.next, written-length first.put_open_line-end.ensures)))
     (λ c. search rules)
     (λ c. search written_then))

@@ -1,0 +1,13 @@
+-- The two fields have at most 11 bytes each, so the line has at most 27.
+-- Assumes nothing.
+use Rattle.std.proofs.Common.{arith}
+use Rattle.lists.specs.Ascii.{ascii}
+use Rattle.text.proofs.Printing.{field_short}
+use Rattle.report.proofs.put_open_line.Goals as goal
+
+pub put_line-requires : goal.put_line-requires
+put_line-requires c = omega (arith, field_short c.args.survivors (omega arith), field_short c.args.agreeing (omega arith))
+
+pub returns : goal.returns
+unfolding ascii
+returns c = c.put_line.ensures
