@@ -3,6 +3,7 @@
 #![tactic(auto)]
 
 use dealing::Outcome;
+use std::io;
 
 fn number(outcome: Outcome) -> u16 {
     match outcome {
@@ -11,73 +12,80 @@ fn number(outcome: Outcome) -> u16 {
     }
 }
 
-fn print_word(word: u16) {
-    io::print_decimal(1, word as u64);
-    io::write_all(1, b" ");
+fn print_word(rt: &impl Print, word: u16) -> io::Result<()> {
+    print!(rt; "{word} ")
 }
 
-fn print_words(words: &[u16]) {
-    let mut i = 0;
-    while i < words.len() {
-        print_word(words[i]);
-        i = i + 1;
+fn print_words(rt: &impl Print, words: &[u16]) -> io::Result<()> {
+    for word in words {
+        print_word(rt, *word)?;
     }
-    io::write_all(1, b"\n");
+    println!(rt)
 }
 
 // Deals, and prints the number and the whole buffer.
-fn show(t: usize, day: u16, secret: &[u16], random: &[u16], shares: &mut [u16]) {
-    print_word(number(dealing::deal(t, day, secret, random, shares)));
-    print_words(shares);
+fn show(
+    rt: &impl Print,
+    t: usize,
+    day: u16,
+    secret: &[u16],
+    random: &[u16],
+    shares: &mut [u16],
+) -> io::Result<()> {
+    print_word(rt, number(dealing::deal(t, day, secret, random, shares)))?;
+    print_words(rt, shares)
 }
 
 // Words of a linear congruential generator.
 fn scramble(words: &mut [u16], seed: u16) {
     let mut x = seed;
-    let mut i = 0;
-    while i < words.len() {
+    for word in words {
         x = field::add_product(12345, 25173, x);
-        words[i] = x;
-        i = i + 1;
+        *word = x;
     }
 }
 
 // Every 101st word.
-fn print_samples(words: &[u16]) {
-    let mut i = 0;
-    while i < words.len() {
-        print_word(words[i]);
-        i = i + 101;
+fn print_samples(rt: &impl Print, words: &[u16]) -> io::Result<()> {
+    for word in words.iter().step_by(101) {
+        print_word(rt, *word)?;
     }
-    io::write_all(1, b"\n");
+    println!(rt)
 }
 
 // Deals words of the generator, and prints the number, some words, and a checksum: the sum of word i times 31 to the power i.
-fn show_scrambled(t: usize, day: u16, secret: &mut [u16], random: &mut [u16], shares: &mut [u16]) {
+fn show_scrambled(
+    rt: &impl Print,
+    t: usize,
+    day: u16,
+    secret: &mut [u16],
+    random: &mut [u16],
+    shares: &mut [u16],
+) -> io::Result<()> {
     scramble(secret, 1);
     scramble(random, 2);
-    print_word(number(dealing::deal(t, day, secret, random, shares)));
-    print_samples(shares);
-    print_word(polynomial::evaluate(shares, 31));
-    io::write_all(1, b"\n");
+    print_word(rt, number(dealing::deal(t, day, secret, random, shares)))?;
+    print_samples(rt, shares)?;
+    print_word(rt, polynomial::evaluate(shares, 31))?;
+    println!(rt)
 }
 
-fn show_largest() {
+fn show_largest(rt: &impl Print) -> io::Result<()> {
     let mut secret = [0u16; 64];
     let mut random = [0u16; 2882];
     let mut shares = [0u16; 4867];
-    show_scrambled(15, 65520, &mut secret, &mut random, &mut shares);
+    show_scrambled(rt, 15, 65520, &mut secret, &mut random, &mut shares)
 }
 
-fn show_c5() {
+fn show_c5(rt: &impl Print) -> io::Result<()> {
     let secret = [250u16];
     let random = [3u16, 1, 1, 1, 2, 1, 3, 2, 1, 2, 2, 2, 3, 3, 1, 3, 2, 3, 3];
     let mut shares = [9u16; 30];
-    show(1, 1, &secret, &random, &mut shares);
+    show(rt, 1, 1, &secret, &random, &mut shares)
 }
 
 // Each refusal, of an input with one fault. The buffer stays.
-fn show_refusals() {
+fn show_refusals(rt: &impl Print) -> io::Result<()> {
     let secret = [250u16];
     let high = [65521u16];
     let random = [0u16; 19];
@@ -85,20 +93,20 @@ fn show_refusals() {
     last_high[18] = 65521;
     let mut shares = [9u16; 30];
     let mut short = [9u16; 29];
-    show(0, 1, &secret, &random, &mut shares);
-    show(16, 1, &secret, &random, &mut shares);
-    show(1, 1, &secret[..0], &random, &mut shares);
-    show(1, 0, &secret, &random, &mut shares);
-    show(1, 65521, &secret, &random, &mut shares);
-    show(1, 65535, &secret, &random, &mut shares);
-    show(1, 1, &secret, &random[..18], &mut shares);
-    show(1, 1, &secret, &random, &mut short);
-    show(1, 1, &high, &random, &mut shares);
-    show(1, 1, &secret, &last_high, &mut shares);
+    show(rt, 0, 1, &secret, &random, &mut shares)?;
+    show(rt, 16, 1, &secret, &random, &mut shares)?;
+    show(rt, 1, 1, &secret[..0], &random, &mut shares)?;
+    show(rt, 1, 0, &secret, &random, &mut shares)?;
+    show(rt, 1, 65521, &secret, &random, &mut shares)?;
+    show(rt, 1, 65535, &secret, &random, &mut shares)?;
+    show(rt, 1, 1, &secret, &random[..18], &mut shares)?;
+    show(rt, 1, 1, &secret, &random, &mut short)?;
+    show(rt, 1, 1, &high, &random, &mut shares)?;
+    show(rt, 1, 1, &secret, &last_high, &mut shares)
 }
 
-fn main() {
-    show_c5();
-    show_largest();
-    show_refusals();
+fn main(rt: HostRuntime) -> io::Result<()> {
+    show_c5(&rt)?;
+    show_largest(&rt)?;
+    show_refusals(&rt)
 }

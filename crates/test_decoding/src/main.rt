@@ -3,25 +3,22 @@
 #![tactic(auto)]
 
 use decoding::Outcome;
-use libc::STDOUT_FILENO;
+use std::io;
 
 // A number and a tab.
-fn field(n: u32) {
-    io::print_decimal(STDOUT_FILENO, n as u64);
-    io::write_all(STDOUT_FILENO, b"\t");
+fn field(rt: &impl Print, n: u32) -> io::Result<()> {
+    print!(rt; "{n}\t")
 }
 
-fn end_line() {
-    io::write_all(STDOUT_FILENO, b"\n");
+fn end_line(rt: &impl Print) -> io::Result<()> {
+    println!(rt)
 }
 
-fn show(words: &[u16]) {
-    let mut i = 0;
-    while i < words.len() {
-        field(words[i] as u32);
-        i = i + 1;
+fn show(rt: &impl Print, words: &[u16]) -> io::Result<()> {
+    for word in words {
+        field(rt, u32::from(*word))?;
     }
-    end_line();
+    end_line(rt)
 }
 
 // The next word of a fixed sequence.
@@ -32,11 +29,9 @@ fn next(x: u16) -> u16 {
 // Words of the sequence.
 fn fill(words: &mut [u16], seed: u16) {
     let mut a = seed;
-    let mut i = 0;
-    while i < words.len() {
+    for word in words {
         a = next(a);
-        words[i] = a;
-        i = i + 1;
+        *word = a;
     }
 }
 
@@ -49,10 +44,8 @@ fn value(f: &[u16], set: u32, i: usize) -> u16 {
 }
 
 fn values_of(f: &[u16], set: u32, values: &mut [u16]) {
-    let mut i = 0;
-    while i < values.len() {
-        values[i] = value(f, set, i);
-        i = i + 1;
+    for (i, word) in values.iter_mut().enumerate() {
+        *word = value(f, set, i);
     }
 }
 

@@ -1,8 +1,8 @@
 // Prunes tables of votes, and compares what is left with another way of finding the largest set.
 #![tactic(auto)]
 
-use libc::STDOUT_FILENO;
 use pruning::Survivors;
+use std::io;
 
 // What pruning leaves; all 32 bits, which it never leaves, where it refuses.
 fn left(t: usize, rows: &[u32]) -> u32 {
@@ -23,12 +23,10 @@ fn number(t: usize, rows: &[u32]) -> u16 {
 // Common members, counted bit by bit.
 fn votes(row: u32, set: u32) -> u32 {
     let mut n: u32 = 0;
-    let mut j: u32 = 0;
-    while j < 32 {
+    for j in 0..32u32 {
         if row >> j & set >> j & 1 == 1 {
             n += 1;
         }
-        j += 1;
     }
     n
 }
@@ -52,21 +50,17 @@ fn closed(rows: &[u32; 3], set: u32) -> bool {
 // The closed sets of three members, joined.
 fn joined(rows: &[u32; 3]) -> u32 {
     let mut all: u32 = 0;
-    let mut set: u32 = 0;
-    while set < 8 {
+    for set in 0..8u32 {
         if closed(rows, set) {
             all |= set;
         }
-        set += 1;
     }
     all
 }
 
 // The last weak member of 31, or 31.
 fn last_weak(rows: &[u32; 31], set: u32) -> usize {
-    let mut i: usize = 31;
-    while 0 < i {
-        i -= 1;
+    for i in (0..31usize).rev() {
         if weak(16, rows[i], set, i) {
             return i;
         }
@@ -77,14 +71,12 @@ fn last_weak(rows: &[u32; 31], set: u32) -> usize {
 // Of 31 members, weak ones are struck one at a time, the last first.
 fn struck(rows: &[u32; 31]) -> u32 {
     let mut set: u32 = 2147483647;
-    let mut turns: usize = 31;
-    while 0 < turns {
+    for _ in 0..31u8 {
         let i = last_weak(rows, set);
         if 31 <= i {
             return set;
         }
         set ^= 1u32 << i;
-        turns -= 1;
     }
     set
 }
@@ -99,14 +91,12 @@ fn next(x: u32) -> u32 {
 // Rows in which a vote is given five times in eight; the next word.
 fn fill(rows: &mut [u32; 31], word: u32) -> u32 {
     let mut x = word;
-    let mut i: usize = 0;
-    while i < 31 {
+    for row in rows {
         let a = next(x);
         let b = next(a);
         let c = next(b);
-        rows[i] = (a | b & c) & 2147483647;
+        *row = (a | b & c) & 2147483647;
         x = c;
-        i += 1;
     }
     x
 }
@@ -121,18 +111,14 @@ fn link(i: usize) -> u32 {
 
 // A chain of votes whose first member has the votes that are given.
 fn chain(rows: &mut [u32; 31], first: u32) {
-    let mut i: usize = 0;
-    while i < 31 {
+    for i in 0..31usize {
         rows[i] = link(i);
-        i += 1;
     }
     rows[0] = first;
 }
 
-fn line(label: &[u8], n: u64) {
-    io::write_all(STDOUT_FILENO, label);
-    io::print_decimal(STDOUT_FILENO, n);
-    io::write_all(STDOUT_FILENO, b"\n");
+fn line(rt: &impl Print, label: &str, n: u64) -> io::Result<()> {
+    println!(rt; "{label}{n}")
 }
 
 // How many tables agree, how many of them leave nobody and everybody, and the sum of what is left.
@@ -154,18 +140,18 @@ fn one(b: bool) -> u64 {
 // One more table, of as many members as `all` has.
 fn more(t: Tally, all: u32, set: u32) -> Tally {
     Tally {
-        agree: std::num::wrapping_add_u64(t.agree, one(set <= all)),
-        nobody: std::num::wrapping_add_u64(t.nobody, one(set == 0)),
-        everybody: std::num::wrapping_add_u64(t.everybody, one(set == all)),
-        sum: std::num::wrapping_add_u64(t.sum, set as u64),
+        agree: t.agree.wrapping_add(one(set <= all)),
+        nobody: t.nobody.wrapping_add(one(set == 0)),
+        everybody: t.everybody.wrapping_add(one(set == all)),
+        sum: t.sum.wrapping_add(set as u64),
     }
 }
 
-fn report(t: Tally) {
-    line(b"tables that agree: ", t.agree);
-    line(b"that leave nobody: ", t.nobody);
-    line(b"that leave everybody: ", t.everybody);
-    line(b"sum of what is left: ", t.sum);
+fn report(rt: &impl Print, t: Tally) -> io::Result<()> {
+    line(rt, "tables that agree: ", t.agree)?;
+    line(rt, "that leave nobody: ", t.nobody)?;
+    line(rt, "that leave everybody: ", t.everybody)?;
+    line(rt, "sum of what is left: ", t.sum)
 }
 
 // What both ways leave; all 32 bits where they differ.
@@ -200,11 +186,9 @@ fn small() -> Tally {
         everybody: 0,
         sum: 0,
     };
-    let mut k: u32 = 0;
-    while k < 512 {
+    for k in 0..512u32 {
         let rows = [k % 8, k / 8 % 8, k / 64 % 8];
         t = more(t, 7, both3(&rows));
-        k += 1;
     }
     t
 }
@@ -219,28 +203,27 @@ fn large() -> Tally {
     };
     let mut rows = [0u32; 31];
     let mut word: u32 = 1;
-    let mut k: u32 = 0;
-    while k < 300 {
+    for _ in 0..300u16 {
         word = fill(&mut rows, word);
         t = more(t, 2147483647, both31(&rows));
-        k += 1;
     }
     t
 }
 
-fn main() {
-    line(b"C6: ", left(1, &[3, 6, 4]) as u64);
-    line(b"C7: ", left(1, &[7, 7, 7]) as u64);
-    line(b"C8: ", left(1, &[3, 3, 4]) as u64);
-    line(b"no threshold: ", number(0, &[8]) as u64);
-    line(b"threshold 16: ", number(16, &[8]) as u64);
-    line(b"one row: ", number(1, &[8]) as u64);
-    line(b"a bit beyond member 3: ", number(1, &[3, 3, 8]) as u64);
-    line(b"a chain of 31: ", chained(65535) as u64);
+fn main(rt: HostRuntime) -> io::Result<()> {
+    line(&rt, "C6: ", left(1, &[3, 6, 4]) as u64)?;
+    line(&rt, "C7: ", left(1, &[7, 7, 7]) as u64)?;
+    line(&rt, "C8: ", left(1, &[3, 3, 4]) as u64)?;
+    line(&rt, "no threshold: ", number(0, &[8]) as u64)?;
+    line(&rt, "threshold 16: ", number(16, &[8]) as u64)?;
+    line(&rt, "one row: ", number(1, &[8]) as u64)?;
+    line(&rt, "a bit beyond member 3: ", number(1, &[3, 3, 8]) as u64)?;
+    line(&rt, "a chain of 31: ", chained(65535) as u64)?;
     line(
-        b"one vote short at its first member: ",
+        &rt,
+        "one vote short at its first member: ",
         chained(32767) as u64,
-    );
-    report(small());
-    report(large());
+    )?;
+    report(&rt, small())?;
+    report(&rt, large())
 }
