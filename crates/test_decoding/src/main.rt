@@ -66,10 +66,8 @@ fn spoil_one(g: &[u16], set: u32, values: &mut [u16], i: usize, far: bool, left:
 fn spoil(g: &[u16], set: u32, values: &mut [u16], errors: usize, from: usize, far: bool) {
     let n = values.len();
     let mut left = errors;
-    let mut k = 0;
-    while k < n {
+    for k in 0..n {
         left = spoil_one(g, set, values, (2 * (k % 31) + from % 31) % n, far, left);
-        k = k + 1;
     }
 }
 
@@ -102,7 +100,14 @@ fn case_of(t: usize, set: u32, errors: usize, seed: u16, far: bool) -> Case {
 }
 
 // One word: t, the set, the errors, the number, the buffer.
-fn run(case: Case, f: &mut [u16], g: &mut [u16], values: &mut [u16], out: &mut [u16]) {
+fn run(
+    rt: &impl Print,
+    case: Case,
+    f: &mut [u16],
+    g: &mut [u16],
+    values: &mut [u16],
+    out: &mut [u16],
+) -> io::Result<()> {
     let t = case.t;
     let set = case.set;
     let seed = case.seed;
@@ -111,18 +116,18 @@ fn run(case: Case, f: &mut [u16], g: &mut [u16], values: &mut [u16], out: &mut [
     values_of(f, set, values);
     spoil(g, set, values, case.errors, seed as usize, case.far);
     let o = decoding::decode(t, values, set, out);
-    field((t % 32) as u32);
-    field(set);
-    field((case.errors % 32) as u32);
-    field(number(o) as u32);
-    show(out);
+    field(rt, (t % 32) as u32)?;
+    field(rt, set)?;
+    field(rt, (case.errors % 32) as u32)?;
+    field(rt, number(o) as u32)?;
+    show(rt, out)
 }
 
 // The same, with buffers that fit.
-fn word(case: Case) {
+fn word(rt: &impl Print, case: Case) -> io::Result<()> {
     let t = case.t;
     if 15 < t {
-        return;
+        return Ok(());
     }
     let n = members::size(t);
     let mut f = [0u16; 16];
@@ -130,50 +135,51 @@ fn word(case: Case) {
     let mut values = [0u16; 31];
     let mut out = [0u16; 16];
     run(
+        rt,
         case,
         &mut f[..t + 1],
         &mut g[..t + 1],
         &mut values[..n],
         &mut out[..t + 1],
-    );
+    )
 }
 
 // Words of one set: with no error, with half the surplus, and with one more.
-fn words(t: usize, set: u32, seed: u16) {
+fn words(rt: &impl Print, t: usize, set: u32, seed: u16) -> io::Result<()> {
     let s = members::card(set) as usize;
     if s <= t || 15 < t || 32 < s {
-        return;
+        return Ok(());
     }
     let half = (s - t - 1) / 2;
     let too_many = half + 1;
-    word(case_of(t, set, 0, seed, false));
-    word(case_of(t, set, half, next(seed), false));
-    word(case_of(t, set, half, next(seed), true));
-    word(case_of(t, set, too_many, seed, false));
-    word(case_of(t, set, too_many, seed, true));
+    word(rt, case_of(t, set, 0, seed, false))?;
+    word(rt, case_of(t, set, half, next(seed), false))?;
+    word(rt, case_of(t, set, half, next(seed), true))?;
+    word(rt, case_of(t, set, too_many, seed, false))?;
+    word(rt, case_of(t, set, too_many, seed, true))
 }
 
 // All n members, and some of them.
-fn sets(t: usize, seed: u16) {
+fn sets(rt: &impl Print, t: usize, seed: u16) -> io::Result<()> {
     if 15 < t {
-        return;
+        return Ok(());
     }
     let all = members::first(members::size(t));
-    words(t, all, seed);
-    words(t, all & 4294967291, next(seed));
-    words(t, all & 3722304989, next(seed));
-    words(t, all & 2863311530, next(seed));
+    words(rt, t, all, seed)?;
+    words(rt, t, all & 4294967291, next(seed))?;
+    words(rt, t, all & 3722304989, next(seed))?;
+    words(rt, t, all & 2863311530, next(seed))
 }
 
-fn main() {
-    sets(1, 1);
-    sets(2, 20);
-    sets(3, 300);
-    sets(4, 4000);
-    sets(7, 50000);
-    sets(8, 6);
-    sets(11, 77);
-    sets(14, 888);
-    sets(15, 9999);
-    sets(15, 10000);
+fn main(rt: HostRuntime) -> io::Result<()> {
+    sets(&rt, 1, 1)?;
+    sets(&rt, 2, 20)?;
+    sets(&rt, 3, 300)?;
+    sets(&rt, 4, 4000)?;
+    sets(&rt, 7, 50000)?;
+    sets(&rt, 8, 6)?;
+    sets(&rt, 11, 77)?;
+    sets(&rt, 14, 888)?;
+    sets(&rt, 15, 9999)?;
+    sets(&rt, 15, 10000)
 }

@@ -5,7 +5,8 @@
 ghost use Rattle.std.specs.Prelude.{◌<◌};
 
 use handin::{Outcome, Wrote};
-use libc::STDOUT_FILENO;
+use std::io;
+use std::io::Read;
 
 fn wide(word: u16) -> u64
     ensures { result < 65536 }
@@ -15,30 +16,36 @@ fn wide(word: u16) -> u64
 
 fn checksum(words: &[u16]) -> u64 {
     let mut sum: u64 = 0;
-    let mut i = 0;
-    while i < words.len() {
-        sum = (31 * sum + wide(words[i]) + 1) % 65521;
-        i += 1;
+    for word in words {
+        sum = (31 * sum + wide(*word) + 1) % 65521;
     }
     sum
 }
 
-fn print(number: u64, last: u8) {
-    io::print_decimal(STDOUT_FILENO, number);
-    io::write_all(STDOUT_FILENO, &[last]);
+fn print(rt: &impl Print, number: u64, last: char) -> io::Result<()> {
+    print!(rt; "{number}{last}")
 }
 
-fn show(number: u16, t: usize, d: usize, quorum: u16, day: u16, present: u32, words: &[u16]) {
-    print(number as u64, 9);
-    print(t as u64, 9);
-    print(d as u64, 9);
-    print(quorum as u64, 9);
-    print(day as u64, 9);
-    print(present as u64, 9);
-    print(checksum(words), 10);
+fn show(
+    rt: &impl Print,
+    number: u16,
+    t: usize,
+    d: usize,
+    quorum: u16,
+    day: u16,
+    present: u32,
+    words: &[u16],
+) -> io::Result<()> {
+    print(rt, number as u64, '\t')?;
+    print(rt, t as u64, '\t')?;
+    print(rt, d as u64, '\t')?;
+    print(rt, quorum as u64, '\t')?;
+    print(rt, day as u64, '\t')?;
+    print(rt, present as u64, '\t')?;
+    print(rt, checksum(words), '\n')
 }
 
-fn reads(text: &[u8], words: &mut [u16]) {
+fn reads(rt: &impl Print, text: &[u8], words: &mut [u16]) -> io::Result<()> {
     match handin::read(text, words) {
         Outcome::Accepted {
             t,
@@ -46,145 +53,163 @@ fn reads(text: &[u8], words: &mut [u16]) {
             quorum,
             day,
             present,
-        } => show(0, t, d, quorum, day, present, words),
-        Outcome::Refused(k) => show(k, 0, 0, 0, 0, 0, words),
+        } => show(rt, 0, t, d, quorum, day, present, words),
+        Outcome::Refused(k) => show(rt, k, 0, 0, 0, 0, 0, words),
     }
 }
 
 // The text on standard input: 31 shares of 157 five-digit words.
-fn largest(words: &mut [u16]) {
-    let mut text = io::large_buffer();
-    let n = io::read_full(0, &mut text);
-    reads(&text[..n], words);
+fn largest(rt: &(impl Print + Input + AllocGlobal), words: &mut [u16]) -> io::Result<()> {
+    let mut text = Vec::new(rt.alloc());
+    rt.reader().read_to_end(&mut text)?;
+    reads(rt, &text, words)
 }
 
 // A buffer of another length, and a text that is too long.
-fn lengths(words: &mut [u16]) {
+fn lengths(rt: &impl Print, words: &mut [u16]) -> io::Result<()> {
     let mut short = [7u16; 4866];
-    reads(b"D\t1\t1\t0\t1\n", &mut short);
+    reads(rt, b"D\t1\t1\t0\t1\n", &mut short)?;
     let long = [0u8; 40001];
-    reads(&long, words);
+    reads(rt, &long, words)
 }
 
 // Texts that are read: the document's sample, nobody, another order, the largest numerals.
-fn samples(words: &mut [u16]) {
+fn samples(rt: &impl Print, words: &mut [u16]) -> io::Result<()> {
     reads(
+        rt,
         b"D\t1\t1\t0\t1\nP\t1\t253\t255\t1015\t2281\t1\t1\t1\t2\t1\t3\nP\t2\t256\t259\t1028\t2309\t2\t1\t2\t2\t2\t3\nP\t3\t300\t263\t1041\t2337\t3\t1\t3\t2\t3\t3\n",
         words,
-    );
-    reads(b"D\t1\t1\t0\t1\n", words);
+    )?;
+    reads(rt, b"D\t1\t1\t0\t1\n", words)?;
     reads(
+        rt,
         b"D\t1\t1\t0\t1\nP\t3\t300\t263\t1041\t2337\t3\t1\t3\t2\t3\t3\nP\t1\t253\t255\t1015\t2281\t1\t1\t1\t2\t1\t3\n",
         words,
-    );
+    )?;
     reads(
+        rt,
         b"D\t1\t2\t65535\t65520\nP\t2\t65535\t65521\t0\t0\t0\t0\t0\t0\t0\t0\t9\n",
         words,
-    );
+    )
 }
 
 // First lines that are no D line.
-fn first_lines(words: &mut [u16]) {
-    reads(b"", words);
-    reads(b"D\t1\t1\t0\t1", words);
-    reads(b"\n", words);
-    reads(b"D\t0\t1\t0\t1\n", words);
-    reads(b"D\t16\t1\t0\t1\n", words);
-    reads(b"D\t1\t65\t0\t1\n", words);
+fn first_lines(rt: &impl Print, words: &mut [u16]) -> io::Result<()> {
+    reads(rt, b"", words)?;
+    reads(rt, b"D\t1\t1\t0\t1", words)?;
+    reads(rt, b"\n", words)?;
+    reads(rt, b"D\t0\t1\t0\t1\n", words)?;
+    reads(rt, b"D\t16\t1\t0\t1\n", words)?;
+    reads(rt, b"D\t1\t65\t0\t1\n", words)
 }
 
 // First lines with a field that is no letter or no numeral, or one field too many.
-fn first_fields(words: &mut [u16]) {
-    reads(b"D\t1\t1\t65536\t1\n", words);
-    reads(b"D\t01\t1\t0\t1\n", words);
-    reads(b"D\t1\t1\t0\t1\r\n", words);
-    reads(b"d\t1\t1\t0\t1\n", words);
+fn first_fields(rt: &impl Print, words: &mut [u16]) -> io::Result<()> {
+    reads(rt, b"D\t1\t1\t65536\t1\n", words)?;
+    reads(rt, b"D\t01\t1\t0\t1\n", words)?;
+    reads(rt, b"D\t1\t1\t0\t1\r\n", words)?;
+    reads(rt, b"d\t1\t1\t0\t1\n", words)?;
     reads(
+        rt,
         b"D\t1\t1\t0\t1\t0\nP\t1\t253\t255\t1015\t2281\t1\t1\t1\t2\t1\t3\n",
         words,
-    );
-    reads(b"D\t1\t1\t:\t1\n", words);
+    )?;
+    reads(rt, b"D\t1\t1\t:\t1\n", words)
 }
 
 // First lines without a good day.
-fn first_days(words: &mut [u16]) {
-    reads(b"D\t1\t1\t0\n", words);
-    reads(b"D\t1\t1\t0\t\n", words);
-    reads(b"D\t1\t1\t0\t0\n", words);
-    reads(b"D\t1\t1\t0\t65521\n", words);
-    reads(b"D\t1\t1\t0\t65535\n", words);
-    reads(b"D\t1\t1\t0\t65537\n", words);
-    reads(b"D\t1\t1\t0\t01\n", words);
+fn first_days(rt: &impl Print, words: &mut [u16]) -> io::Result<()> {
+    reads(rt, b"D\t1\t1\t0\n", words)?;
+    reads(rt, b"D\t1\t1\t0\t\n", words)?;
+    reads(rt, b"D\t1\t1\t0\t0\n", words)?;
+    reads(rt, b"D\t1\t1\t0\t65521\n", words)?;
+    reads(rt, b"D\t1\t1\t0\t65535\n", words)?;
+    reads(rt, b"D\t1\t1\t0\t65537\n", words)?;
+    reads(rt, b"D\t1\t1\t0\t01\n", words)
 }
 
 // Lines that are no P line.
-fn other_lines(words: &mut [u16]) {
+fn other_lines(rt: &impl Print, words: &mut [u16]) -> io::Result<()> {
     reads(
+        rt,
         b"D\t1\t1\t0\t1\nP\t1\t253\t255\t1015\t2281\t1\t1\t1\t2\t1\t3\nP\t0\t0\t0\t0\t0\t0\t0\t0\t0\t0\n",
         words,
-    );
+    )?;
     reads(
+        rt,
         b"D\t1\t1\t0\t1\nP\t1\t253\t255\t1015\t2281\t1\t1\t1\t2\t1\t3\nP\t1\t0\t0\t0\t0\t0\t0\t0\t0\t0\t0\t\n",
         words,
-    );
+    )?;
     reads(
+        rt,
         b"D\t1\t1\t0\t1\nP\t1\t253\t255\t1015\t2281\t1\t1\t1\t2\t1\t3\nD\t1\t1\t0\t1\n",
         words,
-    );
+    )?;
     reads(
+        rt,
         b"D\t1\t1\t0\t1\nP\t1\t253\t255\t1015\t2281\t1\t1\t1\t2\t1\t3\n\n",
         words,
-    );
+    )?;
     reads(
+        rt,
         b"D\t1\t1\t0\t1\nP\t1\t253\t255\t1015\t2281\t1\t1\t1\t2\t1\t3\nP\t2\t0\t0\t0\t0\t0\t0\t0\t0\t0\t0",
         words,
-    );
+    )?;
     reads(
+        rt,
         b"D\t1\t1\t0\t1\nP\t65536\t0\t0\t0\t0\t0\t0\t0\t0\t0\t0\n",
         words,
-    );
+    )?;
     reads(
+        rt,
         b"D\t1\t1\t0\t1\nP\t1\t253\t255\t1015\t2281\t1\t1\t1\t2\t1\t3\nP\t1\t0\t0\t0\t0\t0\t0\t0\t0\t0\t00\n",
         words,
-    );
+    )?;
     reads(
+        rt,
         b"D\t1\t1\t0\t1\nP\t1\t253\t255\t1015\t2281\t1\t1\t1\t2\t1\t3\nx\nP\t1\t253\t255\t1015\t2281\t1\t1\t1\t2\t1\t3\n",
         words,
-    );
+    )
 }
 
 // Members that are not 1 to n, or met before.
-fn other_members(words: &mut [u16]) {
+fn other_members(rt: &impl Print, words: &mut [u16]) -> io::Result<()> {
     reads(
+        rt,
         b"D\t1\t1\t0\t1\nP\t0\t0\t0\t0\t0\t0\t0\t0\t0\t0\t0\n",
         words,
-    );
+    )?;
     reads(
+        rt,
         b"D\t1\t1\t0\t1\nP\t4\t0\t0\t0\t0\t0\t0\t0\t0\t0\t0\n",
         words,
-    );
+    )?;
     reads(
+        rt,
         b"D\t1\t1\t0\t1\nP\t65535\t0\t0\t0\t0\t0\t0\t0\t0\t0\t0\n",
         words,
-    );
+    )?;
     reads(
+        rt,
         b"D\t1\t1\t0\t1\nP\t1\t253\t255\t1015\t2281\t1\t1\t1\t2\t1\t3\nP\t2\t256\t259\t1028\t2309\t2\t1\t2\t2\t2\t3\nP\t1\t253\t255\t1015\t2281\t1\t1\t1\t2\t1\t3\n",
         words,
-    );
+    )?;
     reads(
+        rt,
         b"D\t1\t1\t0\t1\nP\t1\t253\t255\t1015\t2281\t1\t1\t1\t2\t1\t3\nP\t1\t253\t255\t1015\t2281\t1\t1\t1\t2\t1\t3\nx\n",
         words,
-    );
+    )
 }
 
-fn show_text(number: u16, count: usize, text: &[u8]) {
-    print(number as u64, 9);
-    print(count as u64, 10);
-    io::write_all(STDOUT_FILENO, text);
-    io::write_all(STDOUT_FILENO, &[10]);
+fn show_text(rt: &impl Print, number: u16, count: usize, text: &[u8]) -> io::Result<()> {
+    print(rt, number as u64, '\t')?;
+    print(rt, count as u64, '\n')?;
+    rt.write_all(text)?;
+    println!(rt)
 }
 
 fn writes(
+    rt: &impl Print,
     t: usize,
     d: usize,
     quorum: u16,
@@ -192,79 +217,79 @@ fn writes(
     present: u32,
     shares: &[u16],
     text: &mut [u8],
-) {
+) -> io::Result<()> {
     match handin::write(t, d, quorum, day, present, shares, text) {
-        Wrote::Bytes(count) => show_text(0, count, text),
-        Wrote::Refused(k) => show_text(k, 0, text),
+        Wrote::Bytes(count) => show_text(rt, 0, count, text),
+        Wrote::Refused(k) => show_text(rt, k, 0, text),
     }
 }
 
 // A text for t = 1, d = 1 and day 1, into 120 bytes.
-fn writes_sample(quorum: u16, present: u32, shares: &[u16]) {
+fn writes_sample(rt: &impl Print, quorum: u16, present: u32, shares: &[u16]) -> io::Result<()> {
     let mut text = [46u8; 120];
-    writes(1, 1, quorum, 1, present, shares, &mut text);
+    writes(rt, 1, 1, quorum, 1, present, shares, &mut text)
 }
 
 // Texts that are written: the document's sample, without member 2, nobody, any quorum and words, the last day.
-fn written(shares: &[u16]) {
-    writes_sample(0, 7, shares);
-    writes_sample(0, 5, shares);
-    writes_sample(2, 0, shares);
-    writes_sample(65535, 2, &[65535u16; 30]);
+fn written(rt: &impl Print, shares: &[u16]) -> io::Result<()> {
+    writes_sample(rt, 0, 7, shares)?;
+    writes_sample(rt, 0, 5, shares)?;
+    writes_sample(rt, 2, 0, shares)?;
+    writes_sample(rt, 65535, 2, &[65535u16; 30])?;
     let mut text = [46u8; 20];
-    writes(1, 1, 0, 65520, 0, shares, &mut text);
+    writes(rt, 1, 1, 0, 65520, 0, shares, &mut text)
 }
 
 // A buffer just long enough, one byte short, and empty.
-fn rooms(shares: &[u16]) {
+fn rooms(rt: &impl Print, shares: &[u16]) -> io::Result<()> {
     let mut enough = [46u8; 112];
-    writes(1, 1, 0, 1, 7, shares, &mut enough);
+    writes(rt, 1, 1, 0, 1, 7, shares, &mut enough)?;
     let mut short = [46u8; 111];
-    writes(1, 1, 0, 1, 7, shares, &mut short);
-    writes(1, 1, 0, 1, 7, shares, &mut []);
+    writes(rt, 1, 1, 0, 1, 7, shares, &mut short)?;
+    writes(rt, 1, 1, 0, 1, 7, shares, &mut [])
 }
 
 // Each refusal, alone and before the next.
-fn refusals(shares: &[u16]) {
+fn refusals(rt: &impl Print, shares: &[u16]) -> io::Result<()> {
     let mut text = [46u8; 20];
-    writes(0, 1, 0, 1, 0, shares, &mut text);
-    writes(16, 65, 0, 1, 0, shares, &mut text);
-    writes(1, 0, 0, 1, 0, shares, &mut text);
-    writes(1, 65, 0, 0, 0, &[], &mut text);
-    writes(1, 1, 0, 0, 8, &[0u16; 31], &mut text);
-    writes(1, 1, 0, 65521, 0, shares, &mut text);
-    writes(1, 1, 0, 65535, 0, shares, &mut text);
-    writes(1, 1, 0, 1, 8, &[0u16; 31], &mut text);
-    writes(1, 1, 0, 1, 8, shares, &mut text);
-    writes(1, 1, 0, 1, 7, shares, &mut text);
+    writes(rt, 0, 1, 0, 1, 0, shares, &mut text)?;
+    writes(rt, 16, 65, 0, 1, 0, shares, &mut text)?;
+    writes(rt, 1, 0, 0, 1, 0, shares, &mut text)?;
+    writes(rt, 1, 65, 0, 0, 0, &[], &mut text)?;
+    writes(rt, 1, 1, 0, 0, 8, &[0u16; 31], &mut text)?;
+    writes(rt, 1, 1, 0, 65521, 0, shares, &mut text)?;
+    writes(rt, 1, 1, 0, 65535, 0, shares, &mut text)?;
+    writes(rt, 1, 1, 0, 1, 8, &[0u16; 31], &mut text)?;
+    writes(rt, 1, 1, 0, 1, 8, shares, &mut text)?;
+    writes(rt, 1, 1, 0, 1, 7, shares, &mut text)
 }
 
 // The shares that the first text had, by rising member.
-fn writes_largest(words: &[u16]) {
+fn writes_largest(rt: &impl Print, words: &[u16]) -> io::Result<()> {
     let mut text = [46u8; 29368];
-    writes(15, 64, 65535, 65520, 2147483647, words, &mut text);
+    writes(rt, 15, 64, 65535, 65520, 2147483647, words, &mut text)
 }
 
-fn writer() {
+fn writer(rt: &impl Print) -> io::Result<()> {
     let sample = [
         253u16, 255, 1015, 2281, 1, 1, 1, 2, 1, 3, 256, 259, 1028, 2309, 2, 1, 2, 2, 2, 3, 300,
         263, 1041, 2337, 3, 1, 3, 2, 3, 3,
     ];
-    written(&sample);
-    rooms(&sample);
-    refusals(&sample);
+    written(rt, &sample)?;
+    rooms(rt, &sample)?;
+    refusals(rt, &sample)
 }
 
-fn main() {
+fn main(rt: HostRuntime) -> io::Result<()> {
     let mut words = [7u16; 4867];
-    largest(&mut words);
-    writes_largest(&words);
-    lengths(&mut words);
-    samples(&mut words);
-    first_lines(&mut words);
-    first_fields(&mut words);
-    first_days(&mut words);
-    other_lines(&mut words);
-    other_members(&mut words);
-    writer();
+    largest(&rt, &mut words)?;
+    writes_largest(&rt, &words)?;
+    lengths(&rt, &mut words)?;
+    samples(&rt, &mut words)?;
+    first_lines(&rt, &mut words)?;
+    first_fields(&rt, &mut words)?;
+    first_days(&rt, &mut words)?;
+    other_lines(&rt, &mut words)?;
+    other_members(&rt, &mut words)?;
+    writer(&rt)
 }
