@@ -1,27 +1,55 @@
 -- Laws of what one read comes to.
 -- Assumes nothing.
-use mathlib.Core.Path.{◌≡◌, sym, ap}
-use mathlib.Core.Bool.{Bool, true, false, false≢true}
-use Prim.Native.Nat.{ℕ, zero, suc, min, ◌≤◌}
-use native.Mathlib.Omega.{arith}
-use lib.IntN.{ℤ, pos, negsuc}
+use Rattle.std.proofs.Common.{◌≡◌, refl, sym, ap, subst, ◌∙◌, ℕ, zero, suc, min, ◌+◌, ◌-◌, ◌≤◌, Bool, true, false, List, ◌++◌, length, take, slice_range, arith, le_refl, drop_at, length-take-le, take_all, rules}
+use Rattle.std.proofs.lemmas.Slice.{take-put_mid_below}
+use Rattle.std.specs.Prelude.{Option, Result, Ok, Err}
+use Rattle.std.specs.Io.{ReadsAtMost}
+use Rattle.std.specs.Io.KnownBytes.{Consumes, ReadConsumes}
+use Rattle.std.proofs.KnownBytes.{Consumes-trans}
+use Rattle.std.specs.declared.io.Error.{Error}
+use borrow.Rule.Slice.PartMut.{put_mid, post_of}
+use mathlib.Core.Bool.{false≢true}
+use lib.Seq.{take-add, take-append-le}
 use Rattle.opening.specs.declared.Step.{Step}
 use Rattle.opening.specs.declared.Step.TheVariants.{Failed, End, More}
 use Rattle.opening.specs.Input.{step_of}
 
 is_more : Step → Bool
-is_more Failed = false
+is_more (Failed e) = false
 is_more End = false
 is_more (More n) = true
 
 counted : Step → ℕ
-counted Failed = 0
+counted (Failed e) = 0
 counted End = 0
 counted (More n) = n
 
--- more bytes are at least one, where there is room, and have room
-pub more_fit : (z : ℤ) (room count : ℕ) → More count ≡ step_of z room → (min 1 room ≤ count) × (count ≤ room)
-unfolding step_of is_more counted
-more_fit (negsuc k) room count e = absurd (false≢true (sym (ap is_more e)))
-more_fit (pos zero) room count e = absurd (false≢true (sym (ap is_more e)))
-more_fit (pos (suc k)) room count e = let m : count ≡ min (suc k) room = ap counted e in (omega arith, omega arith)
+module _ (known left : Option (List ℕ)) (part : List ℕ) (room count : ℕ) (same : room ≡ length part) where
+  -- more bytes are at least one and have room, and they are what the reader gave
+  pub more_fit : (r : Result ℕ Error) → More count ≡ step_of r room → ReadsAtMost r part → ReadConsumes known left r part
+      → (1 ≤ count) × (count ≤ length part) × Consumes known left (take count part)
+  unfolding is_more counted
+  more_fit (Err e) h fits read = absurd (false≢true (sym (ap is_more h)))
+  more_fit (Ok zero) h fits read = absurd (false≢true (sym (ap is_more h)))
+  more_fit (Ok (suc k)) h fits read =
+      let m : count ≡ min (suc k) room = ap counted h in
+      let all : count ≡ suc k = omega (arith, m, same, fits.0) in
+      (omega arith, omega (arith, fits.0), subst (λ n. Consumes known left (take n part)) (sym all) read.0)
+
+take_split : (a b : ℕ) (old new : List ℕ) → a ≤ b → take a new ≡ take a old → take a old ++ slice_range new a b ≡ take b new
+take_split a b old new h front =
+    let same : a + (b - a) ≡ b = omega arith in
+    ap (λ l. l ++ slice_range new a b) (sym front) ∙ sym (take-add a (b - a) new) ∙ ap (λ n. take n new) same
+
+slice_range-put_mid : (a k n : ℕ) (xs ys : List ℕ) → a ≤ length xs → n ≤ length ys → slice_range (put_mid a k xs ys) a (a + n) ≡ take n ys
+slice_range-put_mid a k n xs ys within fits =
+    let same : (a + n) - a ≡ n = omega arith in
+    let after = post_of a k xs in
+    ap (take ((a + n) - a)) (drop_at (take a xs) (ys ++ after) a (length-take-le a xs within)) ∙ ap (λ m. take m (ys ++ after)) same ∙ take-append-le n ys after fits
+
+-- bytes that were read into the part from n on follow those before
+pub follows : (a b c : Option (List ℕ)) (text part : List ℕ) (n k count : ℕ) → n ≤ length text → count ≤ length part
+    → Consumes a b (take n text) → Consumes b c (take count part) → Consumes a c (take (n + count) (put_mid n k text part))
+follows a b c text part n k count within fits before read =
+    let joined = take_split n (n + count) text (put_mid n k text part) (omega arith) (take-put_mid_below _ _ _ _ _ (le_refl _) within) in
+    subst (Consumes _ _) (ap (λ l. take n text ++ l) (sym (slice_range-put_mid n k count text part within fits)) ∙ joined) (Consumes-trans _ _ _ _ _ before read)

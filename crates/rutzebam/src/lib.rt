@@ -1,4 +1,4 @@
-// The calls for programs in C and Rust, declared in include/rutzebam.h. Each has the contract of the call it makes: the number
+// The calls that the crate rutzebam_c exports to programs in C and Rust. Each has the contract of the call it makes: the number
 // that is returned is that of the rules, 0 when it is done, and masks, numbers and counts are stored in lent places.
 #![tactic(auto)]
 
@@ -13,8 +13,7 @@ ghost use Rattle.handin.specs.Writer.{write};
 ghost use Rattle.rutzebam.specs.Calls.{dealt, opened, pruned, decoded, hand_in, hand_in_text};
 
 // Dealing.
-#[unsafe(no_mangle)]
-pub extern "C" fn rutzebam_deal(
+pub fn rutzebam_deal(
     t: usize,
     day: u16,
     secret: &[u16],
@@ -40,8 +39,7 @@ fn store_pairs(given: voting::Pairs, pairs: &mut [u16])
 }
 
 // Opening.
-#[unsafe(no_mangle)]
-pub extern "C" fn rutzebam_open(
+pub fn rutzebam_open(
     t: usize,
     day: u16,
     present: u32,
@@ -78,8 +76,7 @@ pub extern "C" fn rutzebam_open(
 }
 
 // Pruning.
-#[unsafe(no_mangle)]
-pub extern "C" fn rutzebam_prune(t: usize, rows: &[u32], survivors: &mut u32) -> u16
+pub fn rutzebam_prune(t: usize, rows: &[u32], survivors: &mut u32) -> u16
     ensures { pruned result survivors.new ≡ prune t rows.now }
 {
     match pruning::prune(t, rows) {
@@ -95,8 +92,7 @@ pub extern "C" fn rutzebam_prune(t: usize, rows: &[u32], survivors: &mut u32) ->
 }
 
 // Decoding.
-#[unsafe(no_mangle)]
-pub extern "C" fn rutzebam_decode(
+pub fn rutzebam_decode(
     t: usize,
     values: &[u16],
     set: u32,
@@ -111,16 +107,14 @@ pub extern "C" fn rutzebam_decode(
 }
 
 // The tag of words; it refuses nothing.
-#[unsafe(no_mangle)]
-pub extern "C" fn rutzebam_tag(alpha: u16, beta: u16, words: &[u16]) -> u16
+pub fn rutzebam_tag(alpha: u16, beta: u16, words: &[u16]) -> u16
     ensures { result ≡ tag_of alpha beta words.now }
 {
     mac::tag(alpha, beta, words)
 }
 
 // The reader of hand-in text.
-#[unsafe(no_mangle)]
-pub extern "C" fn rutzebam_read(
+pub fn rutzebam_read(
     text: &[u8],
     words: &mut [u16],
     t: &mut usize,
@@ -158,8 +152,7 @@ pub extern "C" fn rutzebam_read(
 }
 
 // The writer of hand-in text.
-#[unsafe(no_mangle)]
-pub extern "C" fn rutzebam_write(
+pub fn rutzebam_write(
     t: usize,
     d: usize,
     quorum: u16,

@@ -1,12 +1,14 @@
 // The program `weights`: the table of parity weights goes to standard output, one line each of n, i and word.
 #![tactic(auto)]
 
-ghost use Rattle.std.specs.Prelude.{◌≡◌, ◌+◌, ◌≤◌, ◌<◌, length};
+ghost use Rattle.std.specs.Prelude.{◌≡◌, ◌+◌, ◌≤◌, ◌<◌, length, OnOk};
+ghost use Rattle.std.specs.Io.KnownBytes.{Appends};
 ghost use Rattle.members.specs.Members.{size};
 ghost use Rattle.text.specs.Internal.Writing.{Written};
 ghost use Rattle.weights.specs.WeightTable.{weight_line, member_lines, table};
 
-use libc::STDOUT_FILENO;
+use std::io;
+use std::io::Write;
 
 // The line of member i of n = 2t + 1, counted from 0.
 fn put_weight_line(t: usize, i: usize, output: &mut [u8], at: usize) -> usize
@@ -46,17 +48,19 @@ fn fill_table(output: &mut [u8])
     }
 }
 
-// Prints the table; if the write failed, standard error says so.
-fn print(output: &mut [u8])
+// Prints the table.
+fn print<W: Write>(writer: &mut W, output: &mut [u8]) -> io::Result<()>
     requires { length output.old ≡ 2858 }
+    ensures { OnOk result (Appends (W.contents writer.old) (W.contents writer.new) table) }
 {
     fill_table(output);
-    if !io::write_all(STDOUT_FILENO, output) {
-        os::fail(b"standard output");
-    }
+    writer.write_all(output)
 }
 
-fn main() {
+// If the write failed, standard error says so.
+fn main(rt: HostRuntime) {
     let mut output = [0u8; 2858];
-    print(&mut output);
+    if let Err(error) = print(&mut io::writer(&rt), &mut output) {
+        let _ = eprintln!(rt; "standard output: {error}");
+    }
 }
