@@ -9,10 +9,10 @@ use borrow.Author.Rules.{rules}
 use Rattle.weights.proofs.fill_table.Statement.{statement}
 use Rattle.weights.proofs.fill_table.Tie as tie
 
-abbrev invariant_loop : tie.invariant_loop
+abbrev invariant_loop : tie.invariant-loop-k
 invariant_loop output₀ end₀ k₀ output end k = Printed output₀ output end k
 
-abbrev decreases_loop : tie.decreases_loop
+abbrev decreases_loop : tie.decreases-loop-k
 decreases_loop output₀ end₀ k₀ output end k = 15 - k
 
 pub fill_table_spec : {M : Type 1} → statement M
@@ -25,15 +25,15 @@ fill_table_spec =
     -- end = put_member_lines(k + 1, output, end);
     (λ c. search rules)
     (λ c κs.
-    let at_loop : tie.At-loop invariant_loop decreases_loop = search in
-    let left : at_loop.loop.k < 15 = omega arith in
+    let at_loop : tie.At-loop-k invariant_loop decreases_loop = search in
+    let left : at_loop.loop-k.k < 15 = omega arith in
     (omega arith, omega arith, search printed_room))
     -- k += 1;
     (λ c. search rules)
     (λ c. search rules)
     (λ c.
-    let at_loop : tie.At-loop invariant_loop decreases_loop = search in
-    let left : at_loop.loop.k < 15 = omega arith in
+    let at_loop : tie.At-loop-k invariant_loop decreases_loop = search in
+    let left : at_loop.loop-k.k < 15 = omega arith in
     search printed_next)
     (λ c. search written-length)
     (λ c. search printed_last))

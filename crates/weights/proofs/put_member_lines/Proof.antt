@@ -10,10 +10,10 @@ use borrow.Author.Rules.{rules}
 use Rattle.weights.proofs.put_member_lines.Statement.{statement}
 use Rattle.weights.proofs.put_member_lines.Tie as tie
 
-abbrev invariant_loop : tie.invariant_loop
+abbrev invariant_loop : tie.invariant-loop-i
 invariant_loop t output₀ at n end₀ i₀ output end i = Pieces (size t) (weight_line (size t)) output₀ at output end i
 
-abbrev decreases_loop : tie.decreases_loop
+abbrev decreases_loop : tie.decreases-loop-i
 decreases_loop t output₀ at n end₀ i₀ output end i = n - i
 
 -- the places of the code that the answers below name
@@ -21,10 +21,10 @@ abbrev Start : Type 0
 Start = tie.Start invariant_loop decreases_loop
 
 abbrev Loop : Type 0
-Loop = tie.At-loop invariant_loop decreases_loop
+Loop = tie.At-loop-i invariant_loop decreases_loop
 
 abbrev Sized : Type 0
-Sized = tie.After-size invariant_loop decreases_loop
+Sized = tie.After-size-n invariant_loop decreases_loop
 
 pub put_member_lines_spec : {M : Type 1} → statement M
 unfolding member_lines
@@ -39,16 +39,16 @@ put_member_lines_spec =
     -- end = put_weight_line(t, i, output, end);
     (λ c κs.
     let (start, loop, sized) : Start × Loop × Sized = (search, search, search) in
-    let more : loop.loop.i < size start.args.t = omega (arith, sized.size.ensures) in
-    (search, search, more, pieces_room loop.loop.inv more start.pre.2))
+    let more : loop.loop-i.i < size start.args.t = omega (arith, sized.size-n.ensures) in
+    (search, search, more, pieces_room loop.loop-i.invariant more start.requires.2))
     -- i += 1;
     (λ c. search rules)
     (λ c. search rules)
     (λ c.
     let (start, loop, sized) : Start × Loop × Sized = (search, search, search) in
-    let more : loop.loop.i < size start.args.t = omega (arith, sized.size.ensures) in
+    let more : loop.loop-i.i < size start.args.t = omega (arith, sized.size-n.ensures) in
     search pieces_next)
     (λ c. search written-length)
     (λ c.
     let (start, loop, sized) : Start × Loop × Sized = (search, search, search) in
-    pieces_last loop.loop.inv (omega (arith, sized.size.ensures))))
+    pieces_last loop.loop-i.invariant (omega (arith, sized.size-n.ensures))))

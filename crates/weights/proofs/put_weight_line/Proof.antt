@@ -19,7 +19,7 @@ put_weight_line_spec =
     (λ c. unfold size in omega arith)
     (λ c κs. search rules)
     -- text::put_numbers(n as u32, &numbers, output, at)
-    (λ c. let (start, made) : tie.Start × tie.After-size = (search, search) in omega (arith, made.size.ensures, size_31 _ start.pre.1))
+    (λ c. let (start, made) : tie.Start × tie.After-size-n = (search, search) in omega (arith, made.size-n.ensures, size_31 _ start.requires.1))
     (λ c. search rules)
     (λ c κs. search line_room)
     (λ c. search rules)
