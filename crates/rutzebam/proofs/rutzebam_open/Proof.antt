@@ -15,9 +15,9 @@ rutzebam_open_spec =
     (λ c. search rules)
     (λ c. search rules)
     (λ c.
-    let (answer, told) : tie.After-reconstruct × tie.After-store-pairs = (search, search) in
-    opens _ _ _ _ _ _ _ answer.reconstruct.result answer.reconstruct.ensures _ told.store_pairs.ensures _ _ (search))
+    let (answer, told) : tie.After-reconstruct-answer × tie.After-store_pairs = (search, search) in
+    opens _ _ _ _ _ _ _ answer.reconstruct-answer.result answer.reconstruct-answer.ensures _ told.store_pairs.ensures _ _ (search))
     (λ c. search rules)
     (λ c.
-    let (answer, told) : tie.After-reconstruct × tie.After-store-pairs = (search, search) in
-    open_refuses _ _ _ _ _ _ _ answer.reconstruct.result answer.reconstruct.ensures _ told.store_pairs.ensures _ _ (search)))
+    let (answer, told) : tie.After-reconstruct-answer × tie.After-store_pairs = (search, search) in
+    open_refuses _ _ _ _ _ _ _ answer.reconstruct-answer.result answer.reconstruct-answer.ensures _ told.store_pairs.ensures _ _ (search)))
