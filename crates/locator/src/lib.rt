@@ -41,7 +41,8 @@ fn raise(x: u16, f: &mut [u16])
     }
 }
 
-// u · f + v · g, in place of f.
+// u · f + v · g, in place of f. Inlined, it would make the stack frame of decoding larger.
+#[inline(never)]
 fn mix(u: u16, f: &mut [u16], v: u16, g: &[u16])
     requires { length f.old ≡ length g.now }
     ensures { f.new ≡ mixed u f.old v g.now }
