@@ -64,12 +64,12 @@ fn fill_by_powers(
     polynomial::fill_powers(x, powers);
     let at = shares::words_at(s, i);
     let t = s.t;
-    let mut from = 0;
+    let mut start = 0;
     let mut k = 0;
     while k < secret.len() {
-        let to = from + t;
-        shares[at + k] = polynomial::evaluate_by_powers(secret[k], &random[from..to], powers);
-        from = to;
+        let end = start + t;
+        shares[at + k] = polynomial::evaluate_by_powers(secret[k], &random[start..end], powers);
+        start = end;
         k = k + 1;
     }
 }
@@ -180,11 +180,11 @@ fn store_tags(s: Shape, tags: &[u16], shares: &mut [u16], i: usize)
     requires i_lt_n { (i < s.n) × (length tags.now ≡ 32) }
     ensures { shares.new ≡ stored s i (tag_place s.d 0) (tab s.n (λ j. get_or tags.now j 0)) shares.old }
 {
-    let at = shares::tags_at(s, i);
+    let first = shares::tags_at(s, i);
     let n = s.n;
     let mut j = 0;
     while j < n {
-        shares[at + j] = tags[j];
+        shares[first + j] = tags[j];
         j = j + 1;
     }
 }

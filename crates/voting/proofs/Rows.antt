@@ -87,22 +87,22 @@ vote_by_tags s day able words tags i j v l h e = e ∙ same_vote s day able word
 
 -- the same for one tag alone: does the tag hold
 module _ (t d day able : ℕ) (words : List ℕ) (i j : ℕ) where
-  pub single_member : (a : Bool) → a ≡ has able i → not a ≡ true → vote_of Unread ≡ vote t d day able words j i
+  pub single_member : (a : Bool) → a ≡ has able i → a ≡ false → vote_of Unread ≡ vote t d day able words j i
   unfolding vote_of vote
-  single_member a ea h = sym (rw (fails a (has able i) ea h))
+  single_member a ea h = sym (rw (sym ea ∙ h))
 
-  pub single_voter : (b : Bool) → b ≡ has able j → not b ≡ true → vote_of Unread ≡ vote t d day able words j i
+  pub single_voter : (b : Bool) → b ≡ has able j → b ≡ false → vote_of Unread ≡ vote t d day able words j i
   unfolding vote_of vote
-  single_voter b eb h = sym (rw (and_no (has able i) (has able j) (fails b (has able j) eb h)))
+  single_voter b eb h = sym (rw (and_no (has able i) (has able j) (sym eb ∙ h)))
 
-  module _ (a : Bool) (ea : a ≡ has able i) (ha : not a ≡ false) (b : Bool) (eb : b ≡ has able j) (hb : not b ≡ false) (c : Bool) (ec : c ≡ tag_holds t d day words i j) where
-    pub single_mismatched : not c ≡ true → vote_of Mismatched ≡ vote t d day able words j i
+  module _ (a : Bool) (ea : a ≡ has able i) (ha : a ≡ true) (b : Bool) (eb : b ≡ has able j) (hb : b ≡ true) (c : Bool) (ec : c ≡ tag_holds t d day words i j) where
+    pub single_mismatched : c ≡ false → vote_of Mismatched ≡ vote t d day able words j i
     unfolding vote_of vote
-    single_mismatched h = sym (rw (passes a (has able i) ea ha, passes b (has able j) eb hb, fails c (tag_holds t d day words i j) ec h))
+    single_mismatched h = sym (rw (sym ea ∙ ha, sym eb ∙ hb, sym ec ∙ h))
 
-    pub single_accepted : not c ≡ false → vote_of Accepted ≡ vote t d day able words j i
+    pub single_accepted : c ≡ true → vote_of Accepted ≡ vote t d day able words j i
     unfolding vote_of vote
-    single_accepted h = sym (rw (passes a (has able i) ea ha, passes b (has able j) eb hb, passes c (tag_holds t d day words i j) ec h))
+    single_accepted h = sym (rw (sym ea ∙ ha, sym eb ∙ hb, sym ec ∙ h))
 
 -- one vote more, by its kind
 module _ (at : Counted) (v : code.Vote) (j : ℕ) where

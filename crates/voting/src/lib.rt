@@ -242,16 +242,13 @@ fn test_single(s: Shape, day: u16, able: u32, shares: &[u16], i: usize, j: usize
     requires i_lt_n { (i < s.n) × (j < s.n) }
     ensures { vote_of result ≡ vote_by s.t s.d day able shares.now j i }
 {
-    if !members::has(able, i) {
-        return Vote::Unread; // i is not usable
+    if !members::has(able, i) || !members::has(able, j) {
+        return Vote::Unread; // one of them is not usable
     }
-    if !members::has(able, j) {
-        return Vote::Unread; // j is not usable
+    if tag_holds(s, day, shares, i, j) {
+        return Vote::Accepted;
     }
-    if !tag_holds(s, day, shares, i, j) {
-        return Vote::Mismatched;
-    }
-    Vote::Accepted
+    Vote::Mismatched
 }
 
 // Everybody's votes on member i, one tag after the other.
@@ -265,10 +262,10 @@ fn row_singly(s: Shape, day: u16, able: u32, shares: &[u16], i: usize) -> Counte
         row: 0,
         pairs: no_pairs(),
     };
-    let mut j = 0;
-    while j < s.n {
-        at = add_vote(at, test_single(s, day, able, shares, i, j), j);
-        j = j + 1;
+    let mut k = 0;
+    while k < s.n {
+        at = add_vote(at, test_single(s, day, able, shares, i, k), k);
+        k = k + 1;
     }
     at
 }

@@ -55,7 +55,7 @@ decreases_loop secret random x powers shares₀ i at t from₀ k₀ shares from 
 -- word k's coefficients are among the random words
 inside : (c : tie.In-loop-k invariant_loop decreases_loop)
     → let (entry, at_loop) : tie.Start invariant_loop decreases_loop × tie.At-loop-k invariant_loop decreases_loop = (search, search) in
-    at_loop.loop-k.from + entry.args.s.t ≤ length entry.args.random.now
+    at_loop.loop-k.start + entry.args.s.t ≤ length entry.args.random.now
 inside c = search coefficients
 
 pub fill_by_powers_spec : {M : Type 1} → statement M
@@ -68,7 +68,7 @@ fill_by_powers_spec =
     (λ c κs. let entry : tie.Start invariant_loop decreases_loop = search in omega (arith, entry.requires.0.station.range.t_low))
     (λ c κs. search rules)
     (λ c. search first)
-    -- polynomial::evaluate_by_powers(secret[k], &random[from..to], powers)
+    -- polynomial::evaluate_by_powers(secret[k], &random[start..end], powers)
     (λ c. let (entry, in_loop) : tie.Start invariant_loop decreases_loop × tie.In-loop-k invariant_loop decreases_loop = (search, search) in omega (arith, entry.well_formed, inside in_loop))
     (λ c. omega arith)
     (λ c. omega arith)

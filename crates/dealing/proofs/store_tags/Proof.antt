@@ -47,10 +47,10 @@ store_tags_spec =
     (tie.spec
     invariant_loop
     decreases_loop
-    -- let at = shares::tags_at(s, i)
+    -- let first = shares::tags_at(s, i)
     (λ c κs. search rules)
     (λ c. first _ _ _ _)
-    -- shares[at + j] = tags[j]
+    -- shares[first + j] = tags[j]
     (λ c. omega arith)
     (λ c. omega arith)
     (λ c. let loop : Loop = search in omega (arith, loop.loop-j.invariant.filled.long))
