@@ -4,7 +4,7 @@ use Rattle.std.proofs.Common.{◌≡◌, refl, sym, ap, ◌∙◌, ℕ, ◌≤�
 use Rattle.std.specs.Prelude.{⊤, Option, Some, None, IfSome, Result, Ok, Err}
 use Rattle.std.specs.Io.KnownBytes.{Appends}
 use Rattle.shares.specs.Layout.{capacity}
-use Rattle.handin.specs.Reader.{HandIn, unread, read}
+use Rattle.handin.specs.Reader.{unread}
 use Rattle.handin.proofs.Reading.{read_21}
 use Rattle.report.specs.Report.{print_read, report}
 use Rattle.opening.specs.declared.Failure.{Failure}

@@ -1,5 +1,5 @@
 -- What is printed is the report of the front of what the reader gives, which is that of all of it.
-use Rattle.std.proofs.Common.{rules, ◌≤◌, length}
+use Rattle.std.proofs.Common.{rules, length}
 use Rattle.opening.proofs.Room.{AnswersFront, answers_all}
 use Rattle.opening.proofs.run.Goals as goal
 
