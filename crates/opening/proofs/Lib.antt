@@ -1,2 +1,3 @@
 -- What is proved of this crate.
+pub mod Room
 pub mod Steps

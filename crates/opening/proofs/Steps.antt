@@ -1,6 +1,6 @@
 -- Laws of what one read comes to.
 -- Assumes nothing.
-use Rattle.std.proofs.Common.{◌≡◌, refl, sym, ap, subst, ◌∙◌, ℕ, zero, suc, min, ◌+◌, ◌-◌, ◌≤◌, Bool, true, false, List, ◌++◌, length, take, slice_range, arith, le_refl, drop_at, length-take-le, take_all, rules}
+use Rattle.std.proofs.Common.{◌≡◌, sym, ap, subst, ◌∙◌, ℕ, zero, suc, min, ◌+◌, ◌-◌, ◌≤◌, Bool, true, false, List, ◌++◌, length, take, slice_range, arith, le_refl, drop_at, length-take-le}
 use Rattle.std.proofs.lemmas.Slice.{take-put_mid_below}
 use Rattle.std.specs.Prelude.{Option, Result, Ok, Err}
 use Rattle.std.specs.Io.{ReadsAtMost}

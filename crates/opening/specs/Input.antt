@@ -28,10 +28,10 @@ abbrev pub IsFrom : Option (List ℕ) → Input → List ℕ → Type 0
 IsFrom known (Bytes n) text = IfSome known (λ given. take n text ≡ take (length text) given)
 IsFrom known (Failed error) text = ⊤
 
--- where it is known what the reader gives, nothing but its report is written, of at most len bytes
-abbrev pub Answers : Result Unit Failure → Option (List ℕ) → ℕ → Option (List ℕ) → Option (List ℕ) → Type 0
-Answers (Ok u) known len before after = IfSome known (λ given. Appends before after (report (take len given)))
-Answers (Err failure) known len before after = ⊤
+-- where it is known what the reader gives, the report of all of that is written, and nothing else
+abbrev pub Answers : Result Unit Failure → Option (List ℕ) → Option (List ℕ) → Option (List ℕ) → Type 0
+Answers (Ok u) known before after = IfSome known (λ given. Appends before after (report given))
+Answers (Err failure) known before after = ⊤
 
 -- after a failed read nothing is written
 abbrev pub IsQuiet : Result Unit Failure → Option (List ℕ) → Option (List ℕ) → Type 0

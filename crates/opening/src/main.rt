@@ -1,7 +1,7 @@
 // The program `opening`: hand-in text from standard input is opened, and the answer goes to standard output.
 #![tactic(auto)]
 
-ghost use Rattle.std.specs.Prelude.{◌≡◌, length, OnOk};
+ghost use Rattle.std.specs.Prelude.{◌≡◌, ◌≤◌, length, OnOk};
 ghost use Rattle.std.specs.Io.KnownBytes.{Appends};
 ghost use Rattle.report.specs.Report.{report};
 ghost use Rattle.opening.specs.Input.{Answers, Inside, IsFrom, IsQuiet, step_of};
@@ -69,9 +69,9 @@ enum Failure {
     Writing(io::Error),
 }
 
-// Reads the input and prints its answer.
+// Reads the input and prints its answer. A text of 40001 bytes is refused, so room for as many is enough.
 fn run<R: Read, W: Write>(reader: &mut R, writer: &mut W, text: &mut [u8]) -> Result<(), Failure>
-    ensures answer { Answers result (R.remaining reader.old) (length text.old) (W.contents writer.old) (W.contents writer.new) }
+    ensures answer { 40001 ≤ length text.old → Answers result (R.remaining reader.old) (W.contents writer.old) (W.contents writer.new) }
     ensures quiet { IsQuiet result (W.contents writer.old) (W.contents writer.new) }
 {
     match read_input(reader, text) {
@@ -80,7 +80,7 @@ fn run<R: Read, W: Write>(reader: &mut R, writer: &mut W, text: &mut [u8]) -> Re
     }
 }
 
-// A text of 40001 bytes is refused, so no more of the input is read. If a read or the write failed, standard error says so.
+// If a read or the write failed, standard error says so.
 fn main(rt: HostRuntime) {
     let mut text = [0u8; 40001];
     let _ = match run(&mut rt.reader(), &mut io::writer(&rt), &mut text) {

@@ -13,13 +13,7 @@ ghost use Rattle.handin.specs.Writer.{write};
 ghost use Rattle.rutzebam.specs.Calls.{dealt, opened, pruned, decoded, hand_in, hand_in_text};
 
 // Dealing.
-pub fn rutzebam_deal(
-    t: usize,
-    day: u16,
-    secret: &[u16],
-    random: &[u16],
-    shares: &mut [u16],
-) -> u16
+pub fn rutzebam_deal(t: usize, day: u16, secret: &[u16], random: &[u16], shares: &mut [u16]) -> u16
     ensures { dealt result shares.new ≡ deal t day secret.now random.now shares.old }
 {
     match dealing::deal(t, day, secret, random, shares) {
@@ -92,12 +86,7 @@ pub fn rutzebam_prune(t: usize, rows: &[u32], survivors: &mut u32) -> u16
 }
 
 // Decoding.
-pub fn rutzebam_decode(
-    t: usize,
-    values: &[u16],
-    set: u32,
-    coefficients: &mut [u16],
-) -> u16
+pub fn rutzebam_decode(t: usize, values: &[u16], set: u32, coefficients: &mut [u16]) -> u16
     ensures { decoded result coefficients.new ≡ decode t values.now set (length coefficients.old) }
 {
     match decoding::decode(t, values, set, coefficients) {

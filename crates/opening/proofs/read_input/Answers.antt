@@ -1,5 +1,5 @@
 -- A read adds at least one byte, and all have room.
-use Rattle.std.proofs.Common.{rules, arith, ◌≡◌, ◌∙◌, sym, length, ◌-◌, length-take, length-drop}
+use Rattle.std.proofs.Common.{rules, ◌∙◌, sym}
 use Rattle.opening.proofs.Steps.{more_fit, follows}
 use Rattle.opening.proofs.read_input.Goals as goal
 
