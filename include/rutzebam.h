@@ -92,15 +92,15 @@ extern "C" {
 
 /* How many bytes of stack a call takes at most, with its return address and the arguments on the
    stack, without what memcpy and memset take themselves. In brackets the sum of the frames along the
-   deepest chain of calls, in the code that `rt staticlib` writes for x86-64; the figures are those
-   sums rounded up to a multiple of 256. examples/stack_use.c looks that no call takes more. */
-#define RUTZEBAM_DEAL_STACK_BYTES 1792   /* (1544) */
-#define RUTZEBAM_OPEN_STACK_BYTES 2816   /* (2768) */
-#define RUTZEBAM_PRUNE_STACK_BYTES 256   /* (224) */
-#define RUTZEBAM_DECODE_STACK_BYTES 1280 /* (1144) */
-#define RUTZEBAM_TAG_STACK_BYTES 256     /* (152) */
-#define RUTZEBAM_READ_STACK_BYTES 768    /* (544) */
-#define RUTZEBAM_WRITE_STACK_BYTES 256   /* (152) */
+   deepest chain of calls, in the code that crosscheck/build writes for x86-64; no figure is less than
+   its sum. examples/stack_use.c looks that no call takes more. */
+#define RUTZEBAM_DEAL_STACK_BYTES 1792   /* (1456) */
+#define RUTZEBAM_OPEN_STACK_BYTES 2816   /* (2672) */
+#define RUTZEBAM_PRUNE_STACK_BYTES 256   /* (80) */
+#define RUTZEBAM_DECODE_STACK_BYTES 1280 /* (600) */
+#define RUTZEBAM_TAG_STACK_BYTES 256     /* (88) */
+#define RUTZEBAM_READ_STACK_BYTES 768    /* (488) */
+#define RUTZEBAM_WRITE_STACK_BYTES 256   /* (56) */
 /* The most of them. */
 #define RUTZEBAM_STACK_BYTES 2816
 
