@@ -5,5 +5,7 @@ use Rattle.opening.proofs.run.Goals as goal
 
 pub returns-in-Bytes-clause-answer : goal.returns-in-Bytes-clause-answer
 returns-in-Bytes-clause-answer g c =
-    let front : AnswersFront c.map_err.result (g.R.Read.remaining c.args.reader.now) (length c.args.text.now) (g.W.Write.contents c.args.writer.now) (g.W.Write.contents c.print.new.writer) = search rules in
+    let front : AnswersFront c.map_err.result (g.R.Read.remaining c.args.reader.now) (length c.args.text.now)
+    (g.W.Write.contents c.args.writer.now) (g.W.Write.contents c.print.new.writer)
+    = search rules in
     λ h. answers_all _ _ _ _ _ h front
