@@ -10,6 +10,7 @@ pub mod Grids
 pub mod Grown
 pub mod InPlace
 pub mod StoredBlocks
+pub mod Loops
 pub mod Stores
 pub mod Sums
 pub mod Tables

@@ -1,0 +1,44 @@
+-- Loops that go over a list and write each place: by the place i, the first i places are f 0, .., f (i − 1), and the others are as they were.
+-- Assumes nothing.
+use Rattle.std.proofs.Common.{◌≡◌, ℕ, ◌+◌, ◌<◌, List, [], ◌∷◌, ◌++◌, length, take, drop, refl, sym, ap, ◌∙◌, arith}
+use Rattle.std.proofs.Math.ListN.{set, get_or}
+use Rattle.std.proofs.lemmas.List.{take_all, drop-set-lt, get_or-drop}
+use Rattle.std.proofs.lemmas.Grind.{take-set_at, drop_more_same}
+use Rattle.lists.specs.Tabulate.{tab}
+use Rattle.lists.proofs.Blocks.{tab_more}
+
+add-zero : {n : ℕ} → n + 0 ≡ n
+add-zero = omega arith
+
+module _ {A : Type 0} where
+  pub tab_none : (f : ℕ → A) → tab 0 f ≡ []
+  unfolding tab
+  tab_none f = refl
+
+  -- one place more
+  pub written_next : (f : ℕ → A) (l : List A) (i n : ℕ) (w : A) → n ≡ i + 1 → i < length l → take i l ≡ tab i f → w ≡ f i → take n (set l i w) ≡ tab n f
+  written_next f l i n w e h t q =
+      take-set_at l i n w e h ∙ ap (λ (r : List A). r ++ (w ∷ [])) t ∙ ap (λ (a : A). tab i f ++ (a ∷ [])) q ∙ sym (tab_more i f) ∙ ap (λ (m : ℕ). tab m f) (omega arith)
+
+  -- all of them
+  pub written_last : (f : ℕ → A) (l : List A) (n i : ℕ) → length l ≡ n → n ≡ i → take i l ≡ tab i f → l ≡ tab n f
+  written_last f l n i e h t = sym (take_all i l (omega arith)) ∙ t ∙ ap (λ (m : ℕ). tab m f) (sym h)
+
+  -- a place that is still as it was
+  pub read_kept : (l was : List A) (i : ℕ) (d : A) → drop i l ≡ drop i was → get_or l i d ≡ get_or was i d
+  read_kept l was i d e =
+      ap (λ (k : ℕ). get_or l k d) (sym add-zero) ∙ sym (get_or-drop i l 0 d) ∙ ap (λ (r : List A). get_or r 0 d) e ∙ get_or-drop i was 0 d ∙ ap (λ (k : ℕ). get_or was k d) add-zero
+
+  -- the places after one that is written are as they were
+  pub kept_next : (l was : List A) (i n : ℕ) (w : A) → n ≡ i + 1 → drop i l ≡ drop i was → drop n (set l i w) ≡ drop n was
+  kept_next l was i n w e k =
+      drop-set-lt n l i w (omega arith)
+      ∙ ap (λ (m : ℕ). drop m l) e
+      ∙ drop_more_same l was i k
+      ∙ ap (λ (m : ℕ). drop m was) (sym e)
+
+-- for a loop that writes f i at each place i
+pub ruleset writes = (tab_none, written_next, written_last)
+
+-- for a loop that writes at each place i what it works out from the word that stood there
+pub ruleset rewrites = (tab_none, written_next, written_last, read_kept, kept_next)
