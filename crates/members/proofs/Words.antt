@@ -3,23 +3,23 @@
 use mathlib.Core.Path.{◌≡◌, refl, sym, ap, ◌∙◌, subst}
 use mathlib.Core.Logic.{◌⊎◌, inl, inr}
 use mathlib.Core.Bool.{Bool, true, false, ◌&&◌, ◌||◌, not, cond}
-use Prim.Native.Nat.{ℕ, zero, suc, ◌+◌, ◌-◌, ◌/◌, ◌^◌, ◌≤◌, ◌<◌, zero-le, suc-le-suc}
-use native.Mathlib.Nat.{le_refl, le-suc, le_of_eq, le_of_suc-le-suc, eq-or-lt_of_le, lt_of_lt_of_le, lt_of_le_of_lt, le_trans, lt_irrefl, lt_of_not-le}
+use Prim.Native.Nat.{ℕ, zero, suc, ◌+◌, ◌-◌, ◌*◌, ◌%◌, ◌/◌, ◌^◌, ◌≤◌, ◌<◌, zero-le, suc-le-suc}
+use native.Mathlib.Nat.{le_refl, le-suc, le_of_eq, le_of_lt, le_of_suc-le-suc, eq-or-lt_of_le, lt_of_lt_of_le, lt_of_le_of_lt, le_trans, lt_irrefl, lt_of_not-le, one-mul}
 use native.Mathlib.Numerals.{add-one}
 use native.Mathlib.Omega.{arith}
-use lib.Dec.{eqb, ltb, leb, leb-suc-suc}
+use lib.Dec.{lit<, eqb, ltb, leb, leb-suc-suc}
 use lib.Arith.{lt_of_le-ne}
 use lib.Bits.{bit_and, bit_or, and_mask, and_le_l, or_lt}
-use lib.Count.{ones}
-use lib.Pow.{pow_mono, pow-lt, pow_pos}
+use lib.Count.{ones, count_trailing_zeros}
+use lib.Pow.{pow_mono, pow-lt, pow_pos, shl_exact}
 use borrow.Author.Tests.{eq-eqb, eqb-true, eqb-false, ne_eqb, lt-ltb, le-ltb, ltb-true, ltb-false}
 use Rattle.lists.specs.Tabulate.{count}
 use Rattle.lists.proofs.Bools.{test, clash, or_no, or_yes, and_yes, and_no}
 use Rattle.lists.proofs.Checks.{within_high}
 use Rattle.lists.proofs.Count.{count_more, count-all}
 use Rattle.members.specs.Members.{is_threshold, size, has, set_of, is_set, card, adding, striking, first_of, common}
-use Rattle.members.specs.Internal.Lowest.{Lowest}
-use Rattle.members.proofs.Masks.{has-set_of, set_of-lt, set_of-has, set_of_ext, same_members, has-zero, has_above, has-and, has-or, has-not, has-power, has_shift, ones_and, suc_everyone, card_more}
+use Rattle.members.specs.Internal.Lowest.{First}
+use Rattle.members.proofs.Masks.{has-set_of, set_of-lt, set_of-has, set_of_ext, same_members, has-zero, has_above, has-and, has-or, has-not, has-power, has_shift, has_below, has_lowest, ones-card, ones_and, suc_everyone, card_more}
 
 -- ---- what the code computes
 
@@ -72,11 +72,6 @@ pub striking_less : (m i : ℕ) → m < 2 ^ 32 → i < 32 → has m i ≡ true �
 striking_less m i h k y =
     lt_of_le-ne (striking-le m i h k)
     (λ e. clash y (sym (ap (λ (x : ℕ). has x i) e) ∙ has-striking m i i k ∙ and_no (has m i) (not (eqb i i)) (ap not (eq-eqb i i refl))))
-
--- a set that is not empty has a first member
-pub lowest_member : (m i : ℕ) → m < 2 ^ 32 → 0 < m → Lowest m i → i < 32
-lowest_member m i h some low =
-    lt_of_not-le (λ l. lt_irrefl _ (subst (λ (x : ℕ). 0 < x) (same_members 32 m 0 h (pow_pos 32) (λ k b. low.none_before k (lt_of_lt_of_le b l) ∙ sym (has-zero k))) some))
 
 -- ---- the same operations on n members, n at most 32
 
@@ -192,3 +187,34 @@ set_of_none (suc n) p h = rw (h 0 (suc-le-suc zero-le), set_of_none n (λ i. p (
 -- all of a mask's bits are those of the n members, where it has none beyond
 pub card_32 : (t set : ℕ) → t ≤ 15 → set < 2 ^ size t → card 32 set ≡ card (size t) set
 card_32 t set small h = card_more (size t) 32 set h (size_32 t small)
+
+-- ---- what the functions answer
+
+-- a mask has no member beyond the 32
+pub has_beyond : (m i : ℕ) → m < 2 ^ 32 → 32 ≤ i → false ≡ has m i
+has_beyond m i h k = sym (has_above 32 m i h k)
+
+-- the bits that are 1 are the members
+pub card-ones : (m : ℕ) → m < 2 ^ 32 → ones m ≡ card 32 m
+card-ones m h = ones-card 32 m h
+
+-- the zeros below the lowest bit are the members before the first
+pub lowest_first : (m : ℕ) → m < 2 ^ 32 → (m ≡ 0 → ⊥) → First m (count_trailing_zeros 32 m)
+lowest_first m h some =
+    let inside : count_trailing_zeros 32 m < 32 =
+    lt_of_not-le (λ l. some (same_members 32 m 0 h (pow_pos 32) (λ k b. has_below 32 m k (lt_of_lt_of_le b l) ∙ sym (has-zero k))))
+    in
+    record { inside = inside; none_before = has_below 32 m; member = has_lowest 32 m inside }
+
+-- all bits below n make 2 ^ n − 1, and from 32 on the whole mask
+pub first_of-value : (n p : ℕ) → p ≡ 2 ^ n → n < 32 → p - 1 ≡ first_of n
+first_of-value n p e h = omega (arith, e, first_of-power n (le_of_lt h))
+
+pub first_of_whole : (n : ℕ) → 32 ≤ n → 4294967295 ≡ first_of n
+first_of_whole n h = omega (arith, first_of_beyond n h)
+
+-- 1 moved up by i places, which fits below 32
+pub one_bit : (i : ℕ) → i < 32 → 1 * 2 ^ i % 2 ^ 32 ≡ 2 ^ i
+one_bit i h = shl_exact 1 i 32 (lit< tt) (omega arith) ∙ one-mul _
+
+pub ruleset words = (shift_has, has_beyond, adding-or, adding_beyond, striking-and, striking_beyond, common-ones, card-ones, lowest_first, first_of-value, first_of_whole, one_bit)

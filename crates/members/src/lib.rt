@@ -1,5 +1,5 @@
 // Sets of members as masks of 32 bits: member i, counted from 0, has bit i.
-#![tactic(auto)]
+#![tactic(auto, using(crate::proofs::Words::words))]
 
 ghost use Rattle.std.specs.Prelude.{◌≡◌, suc, ◌<◌, ◌≤◌, ◌^◌, length};
 ghost use Rattle.lists.specs.Tabulate.{tab};
@@ -10,10 +10,11 @@ ghost use Rattle.members.specs.Internal.Lowest.{Lowest};
 pub fn threshold(t: usize) -> bool
     ensures { result ≡ is_threshold t }
 {
-    1 <= t && t <= 15
+    (1..=15).contains(&t)
 }
 
 // How many members a station has.
+#[tactic(auto, unfolding(crate::specs::Members::size))]
 pub fn size(t: usize) -> usize
     requires { t ≤ 15 }
     ensures { result ≡ size t }
@@ -22,14 +23,13 @@ pub fn size(t: usize) -> usize
 }
 
 // The members' own points: 1 to n, for n members.
+#[tactic(auto, using(lists::proofs::Loops::writes))]
 pub fn own_points(points: &mut [u16])
     requires { length points.old ≤ 31 }
     ensures { points.new ≡ tab (length points.old) (λ i. suc i) }
 {
-    let mut i = 0;
-    while i < points.len() {
-        points[i] = (i + 1) as u16;
-        i = i + 1;
+    for (i, point) in points.iter_mut().enumerate() {
+        *point = (i + 1) as u16;
     }
 }
 
@@ -71,11 +71,14 @@ pub fn without(set: u32, i: usize) -> u32
     set & !only(i)
 }
 
-// The first member of the set, or 32 where it has none.
-pub fn lowest(set: u32) -> usize
+// The first member of the set, if it has any.
+pub fn lowest(set: u32) -> Option<usize>
     ensures { Lowest set result }
 {
-    u32::trailing_zeros(set) as usize
+    if set == 0 {
+        return None;
+    }
+    Some(set.trailing_zeros() as usize)
 }
 
 // The first n members, or the 32 that a mask can hold.
@@ -83,7 +86,7 @@ pub fn first(n: usize) -> u32
     ensures { result ≡ first_of n }
 {
     if 32 <= n {
-        return 4294967295;
+        return u32::MAX;
     }
     only(n) - 1
 }
@@ -92,12 +95,12 @@ pub fn first(n: usize) -> u32
 pub fn card(set: u32) -> u32
     ensures { result ≡ card 32 set }
 {
-    u32::count_ones(set)
+    set.count_ones()
 }
 
 // How many members two sets have in common.
 pub fn common(a: u32, b: u32) -> u32
     ensures { result ≡ common a b }
 {
-    u32::count_ones(a & b)
+    (a & b).count_ones()
 }
