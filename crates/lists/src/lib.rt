@@ -8,19 +8,12 @@ ghost use Rattle.lists.specs.Checks.{within as within_of};
 pub fn within(low: usize, high: usize, x: usize) -> bool
     ensures { result ≡ within_of low high x }
 {
-    if x < low {
-        return false;
-    }
-    x <= high
+    low <= x && x <= high
 }
 
 // The word at every place of the buffer.
 pub fn fill(buffer: &mut [u16], word: u16)
     ensures { buffer.new ≡ replicate (length buffer.old) word }
 {
-    let mut i = 0;
-    while i < buffer.len() {
-        buffer[i] = word;
-        i = i + 1;
-    }
+    buffer.fill(word);
 }
