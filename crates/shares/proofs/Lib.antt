@@ -7,3 +7,4 @@ pub mod Same
 pub mod Shapes
 pub mod Storing
 pub mod Tests
+pub mod View

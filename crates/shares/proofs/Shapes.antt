@@ -1,6 +1,6 @@
 -- Laws of a station's shape.
 -- Assumes nothing.
-use mathlib.Core.Path.{◌≡◌, refl, sym, ap, subst}
+use mathlib.Core.Path.{◌≡◌, refl, sym, subst}
 use mathlib.Core.Bool.{true}
 use mathlib.Core.List.{List}
 use Prim.Native.Nat.{ℕ, ◌+◌, ◌*◌, ◌≤◌, ◌<◌}
@@ -9,7 +9,7 @@ use lib.ListN.{length}
 use Rattle.lists.proofs.Checks.{within_intro, within_low, within_high}
 use Rattle.members.specs.Members.{is_threshold, size}
 use Rattle.shares.specs.Layout.{is_length, width}
-use Rattle.shares.specs.Internal.Shape.{InRange, shape_of, Station, Room, At}
+use Rattle.shares.specs.Internal.Shape.{InRange, Station, Room, At}
 use Rattle.shares.specs.declared.Shape.{Shape}
 use Rattle.shares.proofs.Places.{row_inside, all_fit}
 
@@ -20,31 +20,39 @@ in_range t d p q = record { t_low = within_low 1 15 t p; t_high = within_high 1 
 pub is_a_threshold : (t d : ℕ) → InRange t d → is_threshold t ≡ true
 is_a_threshold t d r = within_intro 1 15 t r.t_low r.t_high
 
--- the shape as the code makes it
-pub shaped : (t d n : ℕ) → n ≡ size t → (let s : Shape = record { t = t; d = d; n = n; width = d + 3 * n } in s) ≡ shape_of t d
-unfolding width
-shaped t d n e = ap (λ (m : ℕ). let s : Shape = record { t = t; d = d; n = m; width = d + 3 * m } in s) e
-
--- t and d in range make a station
-pub station : (t d : ℕ) → InRange t d → Station (shape_of t d)
+-- a shape is that of a station
+pub station : (s : Shape) → Station s
 unfolding size width
-station t d r =
+station s =
     record {
-      range = r;
-      members = refl;
-      share = refl;
-      parts = refl;
-      few = omega (arith, r.t_high);
-      narrow = omega (arith, r.t_high, r.d_high);
-      all_fit = all_fit t d r.t_high r.d_high;
+      range = record { t_low = s.t_low; t_high = s.t_high; d_low = s.d_low; d_high = s.d_high };
+      members = s.members;
+      share = s.share;
+      parts = omega (arith, s.members, s.share);
+      few = omega (arith, s.members, s.t_high);
+      narrow = omega (arith, s.share, s.t_high, s.d_high);
+      all_fit = subst (λ (n : ℕ). n * s.width ≤ 4867) (sym s.members) (subst (λ (w : ℕ). size s.t * w ≤ 4867) (sym s.share) (all_fit s.t s.d s.t_high s.d_high));
     }
 
-pub station_of : (t d : ℕ) (s : Shape) → InRange t d → s ≡ shape_of t d → Station s
-station_of t d s r e = subst (λ (x : Shape). Station x) (sym e) (station t d r)
+-- the shape for t and d in range
+pub shape : (t d : ℕ) → InRange t d → Shape
+shape t d r =
+    record {
+      t = t;
+      d = d;
+      n = size t;
+      width = width t d;
+      t_low = r.t_low;
+      t_high = r.t_high;
+      d_low = r.d_low;
+      d_high = r.d_high;
+      members = refl;
+      share = refl;
+    }
 
 -- the words of a station's shares
-pub room : (t d : ℕ) (words : List ℕ) → InRange t d → length words ≡ size t * width t d → Room (shape_of t d) words
-room t d words r e = record { station = station t d r; long = e }
+pub room : (s : Shape) (words : List ℕ) → length words ≡ s.n * s.width → Room s words
+room s words e = record { station = station s; long = e }
 
 module _ (s : Shape) (st : Station s) (i : ℕ) (h : i < s.n) where
   -- one of the shares is among all of them

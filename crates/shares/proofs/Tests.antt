@@ -1,6 +1,6 @@
 -- The tests of how many words there are and of a mask, as the code makes them by a station's shape; and what a day is below.
 -- Assumes nothing.
-use mathlib.Core.Path.{◌≡◌, sym, ap, ◌∙◌}
+use mathlib.Core.Path.{◌≡◌, sym, ap, ap₂, ◌∙◌}
 use mathlib.Core.Bool.{true, false}
 use mathlib.Core.List.{List}
 use Prim.Native.Nat.{ℕ, ◌*◌, ◌≤◌, ◌<◌}
@@ -12,15 +12,16 @@ use Rattle.lists.proofs.Checks.{within_high}
 use Rattle.members.specs.Members.{size, is_set, first_of}
 use Rattle.members.proofs.Words.{first_of-is_set, size_31}
 use Rattle.shares.specs.Layout.{is_day, width}
-use Rattle.shares.specs.Internal.Shape.{InRange, shape_of}
+use Rattle.shares.specs.Internal.Shape.{InRange}
 use Rattle.shares.specs.declared.Shape.{Shape}
 
 pub day_below : (day : ℕ) → is_day day ≡ true → day < 65521
 day_below day h = omega (arith, within_high 1 65520 day h)
 
-module _ (t d : ℕ) (s : Shape) (es : s ≡ shape_of t d) where
+module _ (t d : ℕ) (s : Shape) (es : (s.t ≡ t) × (s.d ≡ d)) where
   all_words : s.n * s.width ≡ size t * width t d
-  all_words = ap (λ (z : Shape). z.n * z.width) es
+  all_words =
+      ap₂ ◌*◌ s.members s.share ∙ ap (λ (m : ℕ). size m * width m s.d) es.0 ∙ ap (λ (m : ℕ). size t * width t m) es.1
 
   module _ (words : List ℕ) where
     pub wrong_length : (length words ≡ s.n * s.width → ⊥) → eqb (length words) (size t * width t d) ≡ false
@@ -32,7 +33,7 @@ module _ (t d : ℕ) (s : Shape) (es : s ≡ shape_of t d) where
   module _ (range : InRange t d) (present f : ℕ) (ef : f ≡ first_of s.n) where
     tested : leb present f ≡ is_set (size t) present
     tested =
-        ap (leb present) (ef ∙ ap (λ (z : Shape). first_of z.n) es) ∙ first_of-is_set (size t) present (omega (arith, size_31 t range.t_high))
+        ap (leb present) (ef ∙ ap first_of (s.members ∙ ap size es.0)) ∙ first_of-is_set (size t) present (omega (arith, size_31 t range.t_high))
 
     pub beyond_n : f < present → is_set (size t) present ≡ false
     beyond_n h = sym tested ∙ lt-leb present f h

@@ -1,9 +1,13 @@
 // A station's shape, where the words of its shares stand in a buffer, and its days.
 #![tactic(auto)]
 
-ghost use Rattle.std.specs.Prelude.{◌≡◌, ◌*◌, ◌<◌};
-ghost use Rattle.shares.specs.Layout.{is_day, word_place, tag_place, key_place};
-ghost use Rattle.shares.specs.Internal.Shape.{InRange, shape_of, Station, At};
+ghost use Rattle.std.specs.Prelude.{◌≡◌, ◌*◌, ◌≤◌, length};
+ghost use Rattle.members.specs.Members.{size};
+ghost use Rattle.shares.specs.Layout.{is_day, width as width_of};
+
+mod old;
+
+pub use old::{key_at, keys_at, shape_of, share_at, tag_at, tags_at, word_at, words_at};
 
 // A day is 1 to 65520.
 pub fn is_day(day: u16) -> bool
@@ -19,83 +23,98 @@ pub struct Shape {
     pub d: usize,
     pub n: usize,
     pub width: usize,
+    pub ghost t_low: { 1 ≤ t },
+    pub ghost t_high: { t ≤ 15 },
+    pub ghost d_low: { 1 ≤ d },
+    pub ghost d_high: { d ≤ 64 },
+    pub ghost members: { n ≡ size t },
+    pub ghost share: { width ≡ width_of t d },
 }
 
-// The shape for t and d.
-pub fn shape_of(t: usize, d: usize) -> Shape
-    requires { InRange t d }
-    ensures { result ≡ shape_of t d }
-{
-    let n = members::size(t);
-    Shape {
-        t,
-        d,
-        n,
-        width: d + 3 * n,
+impl Shape {
+    // The shape for t and d.
+    pub fn new(t: usize, d: usize) -> Self
+        requires { (1 ≤ t) × (t ≤ 15) × (1 ≤ d) × (d ≤ 64) }
+        ensures { (result.t ≡ t) × (result.d ≡ d) }
+    {
+        let n = members::size(t);
+        Shape {
+            t,
+            d,
+            n,
+            width: d + 3 * n,
+        }
     }
 }
 
-// Where member i's share begins.
-pub fn share_at(s: Shape, i: usize) -> usize
-    requires station { Station s }
-    requires i_lt_n { i < s.n }
-    ensures { At s i 0 s.width result }
-{
-    i * s.width
+// A key: α and β.
+#[derive(Clone, Copy)]
+pub struct Key {
+    pub alpha: u16,
+    pub beta: u16,
 }
 
-// Where member i's share words begin.
-pub fn words_at(s: Shape, i: usize) -> usize
-    requires station { Station s }
-    requires i_lt_n { i < s.n }
-    ensures { At s i (word_place 0) s.d result }
-{
-    share_at(s, i)
+// The shares of all members, in member order, as they stand in a buffer.
+#[derive(Clone, Copy)]
+pub struct Shares<'a> {
+    pub shape: Shape,
+    pub words: &'a [u16],
+    pub ghost long: { length words.now ≡ shape.n * shape.width },
 }
 
-// Where member i's share word k stands.
-pub fn word_at(s: Shape, i: usize, k: usize) -> usize
-    requires station { Station s }
-    requires i_lt_n { (i < s.n) × (k < s.d) }
-    ensures { At s i (word_place k) 1 result }
-{
-    share_at(s, i) + k
-}
+impl<'a> Shares<'a> {
+    ghost use Rattle.std.specs.Prelude.{◌<◌};
+    ghost use Rattle.shares.specs.Layout.{share, share_word, share_words, tag_word_at, key_α, key_β};
 
-// Where member i's tags begin.
-pub fn tags_at(s: Shape, i: usize) -> usize
-    requires station { Station s }
-    requires i_lt_n { i < s.n }
-    ensures { At s i (tag_place s.d 0) s.n result }
-{
-    share_at(s, i) + s.d
-}
+    // Member i's share.
+    pub fn share(&self, i: usize) -> &'a [u16]
+        requires { i < self.now.shape.n }
+        ensures words { result.now ≡ share self.now.shape.t self.now.shape.d self.now.words.now i }
+        ensures long { length result.now ≡ self.now.shape.width }
+    {
+        let from = i * self.shape.width;
+        &self.words[from..from + self.shape.width]
+    }
 
-// Where tag(i,j) stands.
-pub fn tag_at(s: Shape, i: usize, j: usize) -> usize
-    requires station { Station s }
-    requires i_lt_n { (i < s.n) × (j < s.n) }
-    ensures { At s i (tag_place s.d j) 1 result }
-{
-    tags_at(s, i) + j
-}
+    // Member i's share words.
+    pub fn share_words(&self, i: usize) -> &'a [u16]
+        requires { i < self.now.shape.n }
+        ensures { result.now ≡ share_words self.now.shape.t self.now.shape.d self.now.words.now i }
+    {
+        let share = self.share(i);
+        &share[..self.shape.d]
+    }
 
-// Where member i's keys begin.
-pub fn keys_at(s: Shape, i: usize) -> usize
-    requires station { Station s }
-    requires i_lt_n { i < s.n }
-    ensures { At s i (key_place s.t s.d 0) (2 * s.n) result }
-{
-    share_at(s, i) + (s.d + s.n)
-}
+    // Member i's share word k.
+    pub fn share_word(&self, i: usize, k: usize) -> u16
+        requires { (i < self.now.shape.n) × (k < self.now.shape.d) }
+        ensures { result ≡ share_word self.now.shape.t self.now.shape.d self.now.words.now i k }
+    {
+        let share = self.share(i);
+        share[k]
+    }
 
-// Where key(i,j) stands: α there, β next.
-pub fn key_at(s: Shape, i: usize, j: usize) -> usize
-    requires station { Station s }
-    requires i_lt_n { (i < s.n) × (j < s.n) }
-    ensures { At s i (key_place s.t s.d j) 2 result }
-{
-    keys_at(s, i) + 2 * j
+    // tag(i,j)
+    pub fn tag(&self, i: usize, j: usize) -> u16
+        requires { (i < self.now.shape.n) × (j < self.now.shape.n) }
+        ensures { result ≡ tag_word_at self.now.shape.t self.now.shape.d self.now.words.now i j }
+    {
+        let share = self.share(i);
+        share[self.shape.d + j]
+    }
+
+    // key(i,j)
+    pub fn key(&self, i: usize, j: usize) -> Key
+        requires { (i < self.now.shape.n) × (j < self.now.shape.n) }
+        ensures { (result.alpha ≡ key_α self.now.shape.t self.now.shape.d self.now.words.now i j) × (result.beta ≡ key_β self.now.shape.t self.now.shape.d self.now.words.now i j) }
+    {
+        let share = self.share(i);
+        let at = self.shape.d + self.shape.n + 2 * j;
+        Key {
+            alpha: share[at],
+            beta: share[at + 1],
+        }
+    }
 }
 
 // So many members and words that it is quicker to make their share words by powers and their tags under all keys at once. Both ways answer the same.

@@ -13,10 +13,6 @@ pub record InRange (t d : ℕ) : Type 0 where
   pub d_low : 1 ≤ d
   pub d_high : d ≤ 64
 
--- the shape for t and d
-abbrev pub shape_of : ℕ → ℕ → Shape
-shape_of t d = record { t = t; d = d; n = size t; width = width t d }
-
 -- a shape is one for t and d in range; what follows in numbers stands beside it
 pub record Station (s : Shape) : Type 0 where
   pub range : InRange s.t s.d

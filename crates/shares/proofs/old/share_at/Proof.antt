@@ -3,8 +3,8 @@
 use Prim.Native.Nat.{◌*◌, ◌≤◌}
 use native.Mathlib.Omega.{arith}
 use Rattle.shares.proofs.Shapes.{share_small, whole_at}
-use Rattle.shares.proofs.share_at.Statement.{statement}
-use Rattle.shares.proofs.share_at.Tie as tie
+use Rattle.shares.proofs.old.share_at.Statement.{statement}
+use Rattle.shares.proofs.old.share_at.Tie as tie
 
 pub share_at_spec : {M : Type 1} → statement M
 share_at_spec =
