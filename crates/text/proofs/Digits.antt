@@ -69,6 +69,9 @@ has_digit n fits = elim (test (ltb n 10)) [
   | inr e ↦ omega (arith, one_more n (ltb-false n 10 e) fits)
 ]
 
+-- for a loop that counts digits
+pub ruleset counting = (digits-one, one_more, at_most_ten, has_digit)
+
 -- digits stored from the last down: those of the rest are left to store, before place i
 pub record Left (n at : ℕ) (before output : List ℕ) (i rest : ℕ) : Type 0 where
   pub fits : rest < 4294967296

@@ -1,94 +1,42 @@
 -- Laws of a list of fields as it is printed, one after the other.
 -- Assumes nothing.
-use mathlib.Core.Path.{◌≡◌, refl, sym, ap, ap₂, ◌∙◌}
-use mathlib.Core.List.{List, [], ◌∷◌, ◌++◌, map}
-use Prim.Native.Nat.{ℕ, suc, ◌+◌, ◌*◌, ◌≤◌, ◌<◌, zero-le}
+use mathlib.Core.Path.{◌≡◌, refl, sym, ap, ◌∙◌}
+use mathlib.Core.List.{List, map}
+use Prim.Native.Nat.{ℕ, suc, ◌+◌}
 use native.Mathlib.Numerals.{add-one}
-use native.Mathlib.Omega.{arith}
-use lib.ListN.{length, get_or, drop, length-append, drop_of_length-le}
-use lib.Seq.{sets, drop-cons}
-use Rattle.lists.specs.Tabulate.{concat}
-use Rattle.lists.proofs.Stores.{sets-append}
+use lib.ListN.{length, get_or, length-append}
+use Rattle.lists.specs.Tabulate.{tab, concat}
+use Rattle.lists.proofs.Blocks.{concat_more}
+use Rattle.lists.proofs.Tabulate.{map-tab, tab-get_or}
 use Rattle.text.specs.Lines.{digits, field}
-use Rattle.text.specs.Internal.Writing.{Written}
-use Rattle.text.proofs.Digits.{at_most_ten}
 use Rattle.text.proofs.Printing.{length-field}
-use Rattle.text.proofs.Writing.{written-length}
 
--- the fields of numbers
-abbrev fields : List ℕ → List ℕ
-fields ns = concat (map field ns)
+-- the field of the number at place k
+abbrev pub field_at : List ℕ → ℕ → List ℕ
+field_at ns k = field (get_or ns k 0)
 
-fields_cons : (n : ℕ) (ns : List ℕ) → fields (n ∷ ns) ≡ field n ++ fields ns
-unfolding concat
-fields_cons n ns = refl
+-- the fields are pieces
+pub fields_pieces : (ns : List ℕ) → concat (tab (length ns) (field_at ns)) ≡ concat (map field ns)
+fields_pieces ns = ap concat (sym (map-tab field (length ns) (λ k. get_or ns k 0)) ∙ ap (map field) (tab-get_or ns 0))
 
--- the next field, and those after it
-fields_next : (ns : List ℕ) (i : ℕ) → i < length ns → fields (drop i ns) ≡ field (get_or ns i 0) ++ fields (drop (i + 1) ns)
-fields_next ns i h =
-    ap fields (drop-cons ns i 0 h) ∙ fields_cons (get_or ns i 0) (drop (suc i) ns)
-    ∙ ap (λ (k : ℕ). field (get_or ns i 0) ++ fields (drop k ns)) (sym (add-one i))
+pub fields_length : (ns : List ℕ) → length (concat (tab (length ns) (field_at ns))) ≡ length (concat (map field ns))
+fields_length ns = ap length (fields_pieces ns)
 
-fields_end : (ns : List ℕ) (i : ℕ) → length ns ≤ i → fields (drop i ns) ≡ []
-unfolding concat
-fields_end ns i h = ap fields (drop_of_length-le ns h)
+-- the fields counted, by pieces
+pub count_none : (ns : List ℕ) → length (concat (tab 0 (field_at ns))) ≡ 0
+unfolding tab concat
+count_none ns = refl
 
--- fields counted: those of the numbers from place i on are left to count
-pub record Counted (ns : List ℕ) (count i : ℕ) : Type 0 where
-  pub inside : i ≤ length ns
-  pub few : count ≤ 11 * i
-  pub so_far : count + length (fields (drop i ns)) ≡ length (fields ns)
+pub count_next : (ns : List ℕ) (i : ℕ)
+    → length (concat (tab (i + 1) (field_at ns))) ≡ length (concat (tab i (field_at ns))) + suc (length (digits 10 (get_or ns i 0)))
+count_next ns i =
+    ap (λ (m : ℕ). length (concat (tab m (field_at ns)))) (add-one i)
+    ∙ ap length (concat_more i (field_at ns))
+    ∙ length-append (concat (tab i (field_at ns))) (field_at ns i)
+    ∙ ap (λ (m : ℕ). length (concat (tab i (field_at ns))) + m) (length-field (get_or ns i 0))
 
-pub counted-first : (ns : List ℕ) → Counted ns 0 0
-counted-first ns = record { inside = zero-le; few = zero-le; so_far = omega arith }
+pub count_last : (ns : List ℕ) (i : ℕ) → length ns ≡ i → length (concat (tab i (field_at ns))) ≡ length (concat (map field ns))
+count_last ns i e = ap (λ (m : ℕ). length (concat (tab m (field_at ns)))) (sym e) ∙ fields_length ns
 
-module _ {ns : List ℕ} {count i : ℕ} (c : Counted ns count i) where
-  pub counted_next : (d : ℕ) → i < length ns → get_or ns i 0 < 65536 → d ≡ length (digits 10 (get_or ns i 0)) → Counted ns (count + (1 + d)) (i + 1)
-  counted_next d h fits e =
-      let next = ap length (fields_next ns i h) ∙ length-append (field (get_or ns i 0)) (fields (drop (i + 1) ns)) in
-      record {
-        inside = omega arith;
-        few = omega (arith, c.few, e, at_most_ten (get_or ns i 0) (omega arith));
-        so_far = omega (arith, c.so_far, next, e, length-field (get_or ns i 0));
-      }
-
-  pub counted_last : length ns ≤ i → count ≡ length (fields ns)
-  counted_last h = omega (arith, c.so_far, ap length (fields_end ns i h))
-
--- fields written: those of the numbers from place i on are left to write, at `end`
-pub record Fielded (ns before : List ℕ) (at : ℕ) (output : List ℕ) (end i : ℕ) : Type 0 where
-  pub inside : i ≤ length ns
-  pub long : length output ≡ length before
-  pub place : end + length (fields (drop i ns)) ≡ at + length (fields ns)
-  pub left : sets output end (fields (drop i ns)) ≡ sets before at (fields ns)
-
-pub fielded_first : (ns before : List ℕ) (at : ℕ) → Fielded ns before at before at 0
-fielded_first ns before at = record { inside = zero-le; long = refl; place = refl; left = refl }
-
-module _ {ns before : List ℕ} {at : ℕ} {output : List ℕ} {end i : ℕ} (f : Fielded ns before at output end i) where
-  module _ (h : i < length ns) where
-    next_length : length (fields (drop i ns)) ≡ length (field (get_or ns i 0)) + length (fields (drop (i + 1) ns))
-    next_length = ap length (fields_next ns i h) ∙ length-append (field (get_or ns i 0)) (fields (drop (i + 1) ns))
-
-    -- the next field has room
-    pub fielded_room : at + length (fields ns) ≤ length before → end + length (field (get_or ns i 0)) ≤ length output
-    fielded_room r = omega (arith, r, f.place, f.long, next_length)
-
-    pub fielded_next : {after : List ℕ} {next : ℕ} → Written output end (field (get_or ns i 0)) after next → Fielded ns before at after next (i + 1)
-    fielded_next w =
-        record {
-          inside = omega arith;
-          long = written-length w ∙ f.long;
-          place = omega (arith, w.next, f.place, next_length);
-          left =
-              ap₂ (λ (l : List ℕ) (k : ℕ). sets l k (fields (drop (i + 1) ns))) w.stored w.next
-              ∙ sym (sets-append output (field (get_or ns i 0)) (fields (drop (i + 1) ns)) end)
-              ∙ ap (sets output end) (sym (fields_next ns i h))
-              ∙ f.left;
-        }
-
-  pub fielded_last : length ns ≤ i → at + length (fields ns) ≤ length before → Written before at (fields ns) output end
-  fielded_last h r =
-      let none_left = fields_end ns i h in
-      let e : end ≡ at + length (fields ns) = omega (arith, f.place, ap length none_left) in
-      record { stored = ap (sets output end) (sym none_left) ∙ f.left; next = e; fits = omega (arith, e, r) }
+-- for a loop that counts the bytes of fields
+pub ruleset counting = (count_none, count_next, count_last)

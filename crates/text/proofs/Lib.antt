@@ -1,5 +1,4 @@
 -- What is proved of this crate.
-pub mod Bytes
 pub mod Digits
 pub mod Examples
 pub mod FieldLaws

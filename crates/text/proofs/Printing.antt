@@ -1,17 +1,17 @@
 -- Laws of fields and lines as they are printed: how long they are, and how they are written.
 -- Assumes nothing.
 use mathlib.Core.Path.{◌≡◌, refl}
-use mathlib.Core.List.{List, [], ◌∷◌, map}
+use mathlib.Core.List.{List, [], ◌∷◌, ◌++◌, map, append_assoc, append-nil}
 use Prim.Native.Nat.{ℕ, suc, ◌+◌, ◌*◌, ◌^◌, ◌≤◌, ◌<◌}
 use native.Mathlib.Nat.{mul-suc}
 use native.Mathlib.Omega.{arith}
-use lib.ListN.{length, set, length-append}
+use lib.ListN.{length, length-append}
 use Rattle.lists.specs.Tabulate.{concat}
 use Rattle.lists.proofs.Every.{Every, none, more}
 use Rattle.text.specs.Lines.{digits, field, line}
 use Rattle.text.specs.Internal.Writing.{Written}
 use Rattle.text.proofs.Digits.{digits_most, at_most_ten}
-use Rattle.text.proofs.Writing.{written_none, written_one, written_then}
+use Rattle.text.proofs.Writing.{written_then}
 
 pub length-field : (n : ℕ) → length (field n) ≡ suc (length (digits 10 n))
 unfolding field
@@ -47,21 +47,24 @@ pub length-line : (word : List ℕ) (a b : ℕ) → length (line word (a ∷ b �
 unfolding concat
 length-line word a b = omega (arith, length_from word a (b ∷ []), length-append (field b) [])
 
--- a line is written by its word, the fields of its numbers, and its byte 10
-pub written_numbers : {l m₁ m₂ word : List ℕ} {at e₁ e₂ : ℕ} (ns : List ℕ)
-    → Written l at word m₁ e₁ → Written m₁ e₁ (concat (map field ns)) m₂ e₂ → e₂ < length m₂ → Written l at (line word ns) (set m₂ e₂ 10) (e₂ + 1)
+pub ruleset lengths = (length-field, length_from)
+
+-- a line is written by its word, and then the fields of its numbers and its byte 10
+pub written_numbers : {l m r word : List ℕ} {at middle end : ℕ} (ns : List ℕ)
+    → Written l at word m middle → Written m middle (concat (map field ns) ++ 10 ∷ []) r end → Written l at (line word ns) r end
 unfolding line
-written_numbers {m₂ = m₂} {e₂ = e₂} ns p q h = written_then (written_then p q) (written_one m₂ e₂ 10 h)
+written_numbers {word = word} ns p q = rw append_assoc (written_then p q)
 
 -- the field of its first number apart
-pub written_list : {l m₁ m₂ m₃ word : List ℕ} {at e₁ e₂ e₃ : ℕ} (n : ℕ) (ns : List ℕ)
-    → Written l at word m₁ e₁ → Written m₁ e₁ (field n) m₂ e₂ → Written m₂ e₂ (concat (map field ns)) m₃ e₃
-    → e₃ < length m₃ → Written l at (line word (n ∷ ns)) (set m₃ e₃ 10) (e₃ + 1)
+pub written_list : {l m₁ m₂ r word : List ℕ} {at e₁ e₂ end : ℕ} (n : ℕ) (ns : List ℕ)
+    → Written l at word m₁ e₁ → Written m₁ e₁ (field n) m₂ e₂ → Written m₂ e₂ (concat (map field ns) ++ 10 ∷ []) r end
+    → Written l at (line word (n ∷ ns)) r end
 unfolding concat
-written_list n ns p q r h = written_numbers (n ∷ ns) p (written_then q r) h
+written_list n ns p q r = written_numbers (n ∷ ns) p (rw append_assoc (written_then q r))
 
-pub written-line : {l m₁ m₂ m₃ word : List ℕ} {at e₁ e₂ e₃ : ℕ} (a b : ℕ)
-    → Written l at word m₁ e₁ → Written m₁ e₁ (field a) m₂ e₂ → Written m₂ e₂ (field b) m₃ e₃
-    → e₃ < length m₃ → Written l at (line word (a ∷ b ∷ [])) (set m₃ e₃ 10) (e₃ + 1)
+-- those of two numbers
+pub written-line : {l m₁ m₂ m₃ r word : List ℕ} {at e₁ e₂ e₃ end : ℕ} (a b : ℕ)
+    → Written l at word m₁ e₁ → Written m₁ e₁ (field a) m₂ e₂ → Written m₂ e₂ (field b) m₃ e₃ → Written m₃ e₃ (10 ∷ []) r end
+    → Written l at (line word (a ∷ b ∷ [])) r end
 unfolding concat
-written-line {m₃ = m₃} {e₃ = e₃} a b p q r h = written_list a (b ∷ []) p q (written_then r (written_none m₃ e₃ (omega arith))) h
+written-line a b p q r s = written_list a (b ∷ []) p q (rw append-nil (written_then r s))

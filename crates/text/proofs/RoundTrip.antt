@@ -5,7 +5,7 @@ use mathlib.Core.Logic.{◌⊎◌, inl, inr}
 use mathlib.Core.Bool.{Bool, true, false, not}
 use mathlib.Core.Option.{some}
 use mathlib.Core.List.{List, [], ◌∷◌, ◌++◌, map, append_assoc, append-nil}
-use Prim.Native.Nat.{ℕ, zero, suc, ◌+◌, ◌*◌, ◌-◌, ◌/◌, ◌%◌, ◌^◌, ◌≤◌, ◌<◌}
+use Prim.Native.Nat.{ℕ, zero, suc, ◌+◌, ◌/◌, ◌%◌, ◌^◌, ◌≤◌, ◌<◌}
 use native.Mathlib.Nat.{not-suc-le-zero}
 use native.Mathlib.Omega.{arith}
 use borrow.Author.Tests.{ltb-true, ltb-false, le-leb, eq-eqb, ne_eqb}
@@ -18,10 +18,10 @@ use Rattle.lists.proofs.Checks.{within_intro}
 use Rattle.lists.proofs.Every.{Every, none, more}
 use Rattle.lists.proofs.StoredBlocks.{each_append}
 use Rattle.text.specs.Lines.{is_digit, digits, decimal, leads_with_zero, is_numeral, field, parts, numerals, line, is_letter, numbers_of, line_of}
-use Rattle.text.specs.Internal.Scanning.{free, joined}
 use Rattle.text.proofs.Digits.{single, several, tenth, has_digit, digits_most}
-use Rattle.text.proofs.FieldLaws.{numerals_good}
-use Rattle.text.proofs.Parts.{parts_last, parts_next}
+use Rattle.text.proofs.FieldLaws.{joined, numerals_good}
+use Rattle.text.proofs.Numerals.{decimal_last}
+use Rattle.text.proofs.Parts.{free, parts_last, parts_next}
 
 -- ---- the bytes of a numeral
 
@@ -45,12 +45,6 @@ digits-free sep f n low =
     digits-each (λ b. not (eqb b sep)) (λ d h. ap not (ne_eqb (48 + d) sep (λ e. omega (arith, e, low)))) f n
 
 -- ---- the number of a numeral
-
--- the last digit counts once, and those before it ten times
-decimal_last : (high : ℕ) (xs : List ℕ) (b : ℕ) → decimal high (xs ++ (b ∷ [])) ≡ 10 * decimal high xs + (b - 48)
-unfolding decimal
-decimal_last high [] b = refl
-decimal_last high (x ∷ xs) b = decimal_last (10 * high + (x - 48)) xs b
 
 decimal_single : (f n : ℕ) → n < 10 → decimal 0 (digits (suc f) n) ≡ n
 unfolding decimal

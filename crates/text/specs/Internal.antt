@@ -1,4 +1,3 @@
 -- What contracts of private functions and calls between crates cite: how the code works, not what it answers.
 pub mod Scanning
-pub mod Steps
 pub mod Writing

@@ -1,181 +1,106 @@
 // Bytes of text both ways: numerals, fields and lines, read and printed.
 #![tactic(auto)]
 
-ghost use Rattle.std.specs.Prelude.{◌≡◌, cond, [], ◌∷◌, map, ◌+◌, ◌*◌, ◌≤◌, eqb, length};
+ghost use Rattle.std.specs.Prelude.{◌≡◌, ◌≢◌, ℕ, cond, [], ◌∷◌, ◌++◌, map, ◌+◌, ◌*◌, ◌<◌, ◌≤◌, leb, Some, None, length, slice_index, EachIndex, MatchOption, IfSome};
+ghost use Rattle.std.specs.Option.{option_copied};
 ghost use Rattle.std.proofs.Math.Option.{some, none};
 ghost use Rattle.lists.specs.Tabulate.{concat};
-ghost use Rattle.text.specs.Lines.{is_digit, line_of, digits, field, line};
-ghost use Rattle.text.specs.Internal.Scanning.{after, FirstEnds, numbers_in};
-ghost use Rattle.text.specs.Internal.Steps.{kind_of, Marks, digits_from, numeral_of, NextField};
+ghost use Rattle.text.specs.Lines.{parts, line_of, digits, field, line};
+ghost use Rattle.text.specs.Internal.Scanning.{fields_left, numeral_of};
 ghost use Rattle.text.specs.Internal.Writing.{Written};
 
-// What a byte is.
-#[derive(Clone, Copy)]
-enum Kind {
-    Digit,
-    Tab,
-    End,
-    Letter,
-    Other,
+// The place of the first byte that is this one.
+fn place(bytes: &[u8], separator: u8) -> Option<usize>
+    ensures { MatchOption result
+        (EachIndex bytes.now (λ k. slice_index bytes.now k ≢ separator))
+        (λ i. (i < length bytes.now) × ((slice_index bytes.now i ≡ separator) × ((k : ℕ) → k < i → slice_index bytes.now k ≢ separator))) }
+{
+    bytes.iter().position(|b| *b == separator)
 }
 
-fn sort(b: u8) -> Kind
-    ensures { result ≡ kind_of b }
+// The part before the first separator, and the bytes after it.
+pub fn split_once(bytes: &[u8], separator: u8) -> Option<(&[u8], &[u8])>
+    ensures parts { MatchOption result
+        (parts separator bytes.now ≡ bytes.now ∷ [])
+        (λ p. parts separator bytes.now ≡ p.0.now ∷ parts separator p.1.now) }
+    ensures shorter { IfSome result (λ p. (length p.0.now < length bytes.now) × (length p.1.now < length bytes.now)) }
 {
-    match b {
-        b'0'..=b'9' => Kind::Digit,
-        9 => Kind::Tab,
-        10 => Kind::End,
-        68 | 80 => Kind::Letter,
-        _ => Kind::Other,
+    match place(bytes, separator) {
+        Some(i) => Some((&bytes[..i], &bytes[i + 1..])),
+        None => None,
     }
 }
 
-fn is_digit(b: u8) -> bool
-    ensures { result ≡ is_digit b }
+// The first field of a line, and what follows its tab, if it has one.
+fn first_field(line: &[u8]) -> (&[u8], Option<&[u8]>)
+    ensures { parts 9 line.now ≡ result.0.now ∷ fields_left (option_copied result.1) }
 {
-    match sort(b) {
-        Kind::Digit => true,
-        Kind::Tab => false,
-        Kind::End => false,
-        Kind::Letter => false,
-        Kind::Other => false,
+    match split_once(line, b'\t') {
+        Some((field, rest)) => (field, Some(rest)),
+        None => (line, None),
     }
 }
 
-// Whether a byte is this mark: a tab, a line end, or one of the letters.
-fn is_mark(b: u8, mark: u8) -> bool
-    requires { Marks mark }
-    ensures { result ≡ eqb b mark }
+// A number that is at most 65535.
+fn short(value: u32) -> Option<u16>
+    ensures { result ≡ cond (leb value 65535) (Some value) None }
 {
-    match sort(b) {
-        Kind::Tab => mark == 9,
-        Kind::End => mark == 10,
-        Kind::Letter => b == mark,
-        Kind::Digit => false,
-        Kind::Other => false,
-    }
+    u16::try_from(value).ok()
 }
 
-// The end of the first part: the place of the first separator, or the length.
-pub fn scan(bytes: &[u8], separator: u8) -> usize
-    requires { Marks separator }
-    ensures { FirstEnds separator bytes.now result }
-{
-    let mut i = 0;
-    while i < bytes.len() {
-        if is_mark(bytes[i], separator) {
-            return i;
-        }
-        i += 1;
-    }
-    i
-}
-
-// What a field stands for.
-#[derive(Clone, Copy)]
-enum Parsed {
-    Number(u16),
-    Nothing,
-}
-
-// The number of digits, of any count, that is at most 65535.
-fn read_digits(field: &[u8]) -> Parsed
-    ensures { result ≡ digits_from 0 field.now }
-{
-    let mut value: u32 = 0;
-    let mut i = 0;
-    while i < field.len() {
-        let b = field[i];
-        if !is_digit(b) {
-            return Parsed::Nothing;
-        }
-        value = 10 * value + (b - 48) as u32;
-        if 65535 < value {
-            return Parsed::Nothing;
-        }
-        i += 1;
-    }
-    Parsed::Number(value as u16)
-}
-
-fn numeral(field: &[u8]) -> Parsed
+// What a field stands for: the number of 1 to 5 digits with no leading zero, at most 65535.
+fn numeral(field: &[u8]) -> Option<u16>
     ensures { result ≡ numeral_of field.now }
 {
-    let n = field.len();
-    if n < 1 {
-        return Parsed::Nothing;
+    if field.is_empty() {
+        return None;
     }
-    if 5 < n {
-        return Parsed::Nothing;
+    if 5 < field.len() {
+        return None;
     }
-    if n == 1 {
-        return read_digits(field);
+    if 1 < field.len() && field[0] == b'0' {
+        return None;
     }
-    if field[0] == 48 {
-        return Parsed::Nothing;
-    }
-    read_digits(field)
-}
-
-// The next field of a line, after a tab.
-#[derive(Clone, Copy)]
-enum Field {
-    Number { value: u16, end: usize },
-    Nothing,
-}
-
-fn next_field(rest: &[u8]) -> Field
-    ensures { NextField rest.now result }
-{
-    if rest.len() < 1 {
-        return Field::Nothing;
-    }
-    let next = &rest[1..];
-    let e = scan(next, 9);
-    match numeral(&next[..e]) {
-        Parsed::Number(value) => Field::Number { value, end: e + 1 },
-        Parsed::Nothing => Field::Nothing,
-    }
-}
-
-// The numbers of the fields after a line's first, stored in `out`: exactly as many numerals as it has words.
-fn fields(line: &[u8], out: &mut [u16]) -> bool
-    ensures { numbers_in (length out.old) (after 9 line.now) ≡ cond result (some out.new) none }
-{
-    let mut rest = line;
-    let mut i = 0;
-    while i < out.len() {
-        match next_field(rest) {
-            Field::Number { value, end } => {
-                out[i] = value;
-                rest = &rest[end..];
-            }
-            Field::Nothing => return false,
+    let mut value: u32 = 0;
+    for b in field {
+        if !b.is_ascii_digit() {
+            return None;
         }
-        i += 1;
+        value = 10 * value + (*b - b'0') as u32;
     }
-    rest.len() == 0
+    short(value)
 }
 
 // The numbers of a line that is a letter and then exactly as many numerals as `out` has words. For any other line `out` is left with words of no meaning.
 pub fn numbers(line: &[u8], letter: u8, out: &mut [u16]) -> bool
-    requires { Marks letter }
     ensures { line_of letter (length out.old) line.now ≡ cond result (some out.new) none }
 {
-    let e = scan(line, 9);
-    if e != 1 {
+    let (head, mut rest) = first_field(line);
+    if head.len() != 1 {
         return false;
     }
-    if !is_mark(line[0], letter) {
+    if head[0] != letter {
         return false;
     }
-    fields(&line[1..], out)
+    for number in out.iter_mut() {
+        let Some(fields) = rest else {
+            return false;
+        };
+        let (field, after) = first_field(fields);
+        let Some(value) = numeral(field) else {
+            return false;
+        };
+        *number = value;
+        rest = after;
+    }
+    rest.is_none()
 }
 
 // How many digits a number has.
+#[tactic(auto, using(crate::proofs::Digits::counting))]
 fn count_digits(n: u32) -> usize
-    ensures { result ≡ length (digits 10 n) }
+    ensures exact { result ≡ length (digits 10 n) }
+    ensures few { result ≤ 10 }
 {
     let mut count = 1;
     let mut left = n;
@@ -186,86 +111,22 @@ fn count_digits(n: u32) -> usize
     count
 }
 
-// The digits of a number, from the last down to the first.
-fn put_digits(n: u32, output: &mut [u8], at: usize) -> usize
-    requires { at + length (digits 10 n) ≤ length output.old }
-    ensures { Written output.old at (digits 10 n) output.new result }
-{
-    let end = at + count_digits(n);
-    let mut i = end;
-    let mut rest = n;
-    while 9 < rest {
-        i -= 1;
-        output[i] = 48 + (rest % 10) as u8;
-        rest = rest / 10;
-    }
-    output[at] = 48 + rest as u8;
-    end
-}
-
-// A tab and a number.
-fn put_field(n: u32, output: &mut [u8], at: usize) -> usize
-    requires { at + length (field n) ≤ length output.old }
-    ensures { Written output.old at (field n) output.new result }
-{
-    output[at] = 9;
-    put_digits(n, output, at + 1)
-}
-
-// Bytes, copied.
-fn put_bytes(bytes: &[u8], output: &mut [u8], at: usize) -> usize
-    requires { at + length bytes.now ≤ length output.old }
-    ensures { Written output.old at bytes.now output.new result }
-{
-    let mut i = 0;
-    while i < bytes.len() {
-        output[at + i] = bytes[i];
-        i += 1;
-    }
-    at + i
-}
-
-// A line: a word and two numbers.
-pub fn put_line(word: &[u8], a: u32, b: u32, output: &mut [u8], at: usize) -> usize
-    requires { at + length word.now + length (field a) + length (field b) + 1 ≤ length output.old }
-    ensures { Written output.old at (line word.now (a ∷ b ∷ [])) output.new result }
-{
-    let first = put_bytes(word, output, at);
-    let second = put_field(a, output, first);
-    let end = put_field(b, output, second);
-    output[end] = 10;
-    end + 1
-}
-
 // How many bytes the fields of numbers have.
+#[tactic(auto, using(crate::proofs::FieldLists::counting))]
 fn fields_length(numbers: &[u16]) -> usize
     requires { length numbers.now ≤ 65535 }
-    ensures { (result ≡ length (concat (map field numbers.now))) × (result ≤ 11 * length numbers.now) }
+    ensures exact { result ≡ length (concat (map field numbers.now)) }
+    ensures few { result ≤ 11 * length numbers.now }
 {
     let mut count = 0;
-    let mut i = 0;
-    while i < numbers.len() {
-        count += 1 + count_digits(numbers[i] as u32);
-        i += 1;
+    for n in numbers {
+        count += 1 + count_digits(*n as u32);
     }
     count
 }
 
-// A field for each number.
-fn put_fields(numbers: &[u16], output: &mut [u8], at: usize) -> usize
-    requires { at + length (concat (map field numbers.now)) ≤ length output.old }
-    ensures { Written output.old at (concat (map field numbers.now)) output.new result }
-{
-    let mut end = at;
-    let mut i = 0;
-    while i < numbers.len() {
-        end = put_field(numbers[i] as u32, output, end);
-        i += 1;
-    }
-    end
-}
-
 // How many bytes a line has: a word, a number, and a list of numbers.
+#[tactic(auto, using(crate::proofs::Printing::lengths))]
 pub fn list_length(word: &[u8], first: u16, numbers: &[u16]) -> usize
     requires { (length word.now ≤ 65535) × (length numbers.now ≤ 65535) }
     ensures { result ≡ length (line word.now (first ∷ numbers.now)) }
@@ -274,25 +135,131 @@ pub fn list_length(word: &[u8], first: u16, numbers: &[u16]) -> usize
     head + fields_length(numbers) + 1
 }
 
-// A line: a word, a number, and a list of numbers.
-pub fn put_list(word: &[u8], first: u16, numbers: &[u16], output: &mut [u8], at: usize) -> usize
-    requires { at + length word.now + length (field first) + length (concat (map field numbers.now)) + 1 ≤ length output.old }
-    ensures { Written output.old at (line word.now (first ∷ numbers.now)) output.new result }
-{
-    let head = put_bytes(word, output, at);
-    let tail = put_field(first as u32, output, head);
-    let end = put_fields(numbers, output, tail);
-    output[end] = 10;
-    end + 1
+// A buffer that bytes are written into, one after the other, and the place of the next.
+#[derive(Drop)]
+pub struct Output<'a> {
+    bytes: &'a mut [u8],
+    end: usize,
 }
 
-// A line of numbers: its first has no tab before it.
-pub fn put_numbers(first: u32, numbers: &[u16], output: &mut [u8], at: usize) -> usize
-    requires { at + length (digits 10 first) + length (concat (map field numbers.now)) + 1 ≤ length output.old }
-    ensures { Written output.old at (line (digits 10 first) numbers.now) output.new result }
-{
-    let rest = put_digits(first, output, at);
-    let last = put_fields(numbers, output, rest);
-    output[last] = 10;
-    last + 1
+impl<'a> Output<'a> {
+    // At the front of a buffer.
+    pub fn new(bytes: &'a mut [u8]) -> Output<'a>
+        ensures same_reference { result.bytes.ghost_name ≡ bytes.entry.ghost_name }
+        ensures same_bytes { result.bytes.now ≡ bytes.old }
+        ensures front { result.end ≡ 0 }
+    {
+        Output { bytes, end: 0 }
+    }
+
+    pub fn end(&self) -> usize
+        ensures { result ≡ self.now.end }
+    {
+        self.end
+    }
+
+    fn put_byte(&mut self, b: u8)
+        requires { self.old.end < length self.old.bytes.now }
+        ensures same_reference { self.new.bytes.ghost_name ≡ self.old.bytes.ghost_name }
+        ensures written { Written self.old.bytes.now self.old.end (b ∷ []) self.new.bytes.now self.new.end }
+    {
+        self.bytes[self.end] = b;
+        self.end += 1;
+    }
+
+    fn put_bytes(&mut self, bytes: &[u8])
+        requires { self.old.end + length bytes.now ≤ length self.old.bytes.now }
+        ensures same_reference { self.new.bytes.ghost_name ≡ self.old.bytes.ghost_name }
+        ensures written { Written self.old.bytes.now self.old.end bytes.now self.new.bytes.now self.new.end }
+    {
+        let at = self.end;
+        let end = at + bytes.len();
+        let room = &mut *self.bytes;
+        room[at..end].copy_from_slice(bytes);
+        self.end = end;
+    }
+
+    // The digits of a number, from the last down to the first.
+    fn put_digits(&mut self, n: u32)
+        requires { self.old.end + length (digits 10 n) ≤ length self.old.bytes.now }
+        ensures same_reference { self.new.bytes.ghost_name ≡ self.old.bytes.ghost_name }
+        ensures written { Written self.old.bytes.now self.old.end (digits 10 n) self.new.bytes.now self.new.end }
+    {
+        let at = self.end;
+        self.end += count_digits(n);
+        let mut i = self.end;
+        let bytes = &mut *self.bytes;
+        let mut rest = n;
+        while 9 < rest {
+            i -= 1;
+            bytes[i] = 48 + (rest % 10) as u8;
+            rest = rest / 10;
+        }
+        bytes[at] = 48 + rest as u8;
+    }
+
+    // A tab and a number.
+    #[tactic(auto, unfolding(crate::specs::Lines::field))]
+    fn put_field(&mut self, n: u32)
+        requires { self.old.end + length (field n) ≤ length self.old.bytes.now }
+        ensures same_reference { self.new.bytes.ghost_name ≡ self.old.bytes.ghost_name }
+        ensures written { Written self.old.bytes.now self.old.end (field n) self.new.bytes.now self.new.end }
+    {
+        self.put_byte(9);
+        self.put_digits(n);
+    }
+
+    // A field for each number.
+    fn put_fields(&mut self, numbers: &[u16])
+        requires { self.old.end + length (concat (map field numbers.now)) ≤ length self.old.bytes.now }
+        ensures same_reference { self.new.bytes.ghost_name ≡ self.old.bytes.ghost_name }
+        ensures written { Written self.old.bytes.now self.old.end (concat (map field numbers.now)) self.new.bytes.now self.new.end }
+    {
+        for n in numbers {
+            self.put_field(*n as u32);
+        }
+    }
+
+    // The end of a line: a field for each number, and the byte 10.
+    fn put_rest(&mut self, numbers: &[u16])
+        requires { self.old.end + length (concat (map field numbers.now)) + 1 ≤ length self.old.bytes.now }
+        ensures same_reference { self.new.bytes.ghost_name ≡ self.old.bytes.ghost_name }
+        ensures written { Written self.old.bytes.now self.old.end (concat (map field numbers.now) ++ 10 ∷ []) self.new.bytes.now self.new.end }
+    {
+        self.put_fields(numbers);
+        self.put_byte(10);
+    }
+
+    // A line: a word and two numbers.
+    pub fn put_line(&mut self, word: &[u8], a: u32, b: u32)
+        requires { self.old.end + length word.now + length (field a) + length (field b) + 1 ≤ length self.old.bytes.now }
+        ensures same_reference { self.new.bytes.ghost_name ≡ self.old.bytes.ghost_name }
+        ensures written { Written self.old.bytes.now self.old.end (line word.now (a ∷ b ∷ [])) self.new.bytes.now self.new.end }
+    {
+        self.put_bytes(word);
+        self.put_field(a);
+        self.put_field(b);
+        self.put_byte(10);
+    }
+
+    // A line: a word, a number, and a list of numbers.
+    pub fn put_list(&mut self, word: &[u8], first: u16, numbers: &[u16])
+        requires { self.old.end + length word.now + length (field first) + length (concat (map field numbers.now)) + 1 ≤ length self.old.bytes.now }
+        ensures same_reference { self.new.bytes.ghost_name ≡ self.old.bytes.ghost_name }
+        ensures written { Written self.old.bytes.now self.old.end (line word.now (first ∷ numbers.now)) self.new.bytes.now self.new.end }
+    {
+        self.put_bytes(word);
+        self.put_field(first as u32);
+        self.put_rest(numbers);
+    }
+
+    // A line of numbers: its first has no tab before it.
+    pub fn put_numbers(&mut self, first: u32, numbers: &[u16])
+        requires { self.old.end + length (digits 10 first) + length (concat (map field numbers.now)) + 1 ≤ length self.old.bytes.now }
+        ensures same_reference { self.new.bytes.ghost_name ≡ self.old.bytes.ghost_name }
+        ensures written { Written self.old.bytes.now self.old.end (line (digits 10 first) numbers.now) self.new.bytes.now self.new.end }
+    {
+        self.put_digits(first);
+        self.put_rest(numbers);
+    }
 }
