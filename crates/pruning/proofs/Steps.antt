@@ -1,97 +1,65 @@
 -- A law for each step of the loops in the code.
 -- Assumes nothing.
-use mathlib.Core.Path.{◌≡◌, sym, ap, ◌∙◌, subst}
+use mathlib.Core.Path.{◌≡◌, refl, sym, ap, ap₂, ◌∙◌, subst}
 use mathlib.Core.Logic.{◌⊎◌, inl, inr, ⊎_elim}
-use mathlib.Core.Bool.{Bool, true, false, ◌&&◌, not}
-use mathlib.Core.List.{List}
-use Prim.Native.Nat.{ℕ, suc, ◌+◌, ◌-◌, ◌≤◌, ◌<◌, ◌^◌}
-use native.Mathlib.Nat.{le_refl, le_trans, le_of_lt, lt_trans, lt_irrefl, lt_of_lt_of_le, lt_of_le_of_lt, not-le_of_lt}
+use mathlib.Core.Bool.{true, false, ◌&&◌, not}
+use mathlib.Core.List.{List, [], ◌∷◌}
+use Prim.Native.Nat.{ℕ, suc, ◌+◌, ◌≤◌, ◌<◌, ◌^◌}
+use native.Mathlib.Nat.{le_trans, le_of_lt, lt_trans, lt_of_lt_of_le, lt_of_le_of_lt, not-le_of_lt}
 use native.Mathlib.Numerals.{add-one}
 use native.Mathlib.Omega.{arith}
 use lib.Dec.{leb, eqb}
-use lib.ListN.{length, get_or, set}
+use lib.ListN.{length, get_or, drop}
 use lib.Pow.{pow_mono}
-use borrow.Author.Tests.{le-leb, lt-leb, eqb-true, ne_eqb}
-use Rattle.lists.specs.Tabulate.{each}
+use borrow.Author.Tests.{eqb-true, ne_eqb}
+use Rattle.std.specs.List.{list_all}
+use Rattle.lists.specs.Tabulate.{tab, each}
 use Rattle.lists.proofs.Bools.{and_intro, and_left, test, clash}
 use Rattle.lists.proofs.Count.{to_ℕ}
-use Rattle.lists.proofs.Tables.{Filled, filled_next, filled_last, Replaced, replaced_first, replaced_next, replaced_last}
-use Rattle.lists.proofs.Tabulate.{Tested, tested_next, tested_fails, length-tab, get_or-tab}
+use Rattle.lists.proofs.Loops.{read_kept}
+use Rattle.lists.proofs.Tabulate.{length-tab, get_or-tab}
 use Rattle.members.specs.Members.{size, has, is_set, striking, first_of, common}
-use Rattle.members.specs.Internal.Lowest.{Lowest}
+use Rattle.members.specs.Internal.Lowest.{First}
 use Rattle.members.proofs.Masks.{has-zero, has_inside}
-use Rattle.members.proofs.Words.{size_32, first_of-all, first_of-lt, first_of-is_set, common-count, has-striking, striking-le, striking_less, lowest_member}
+use Rattle.members.proofs.Words.{size_32, first_of-all, first_of-lt, first_of-is_set, common-count, has-striking, striking_less}
 use Rattle.pruning.specs.Pruning.{votes, survivors}
 use Rattle.pruning.specs.Counts.{Table, counted, AfterStrike}
-use Rattle.pruning.specs.Internal.Steps.{FirstShort}
+use Rattle.pruning.specs.Internal.Steps.{Short, NobodyShort}
 use Rattle.pruning.proofs.Largest.{Above, above_strike, above_all, struck_survivors}
 use Rattle.pruning.proofs.Counts.{votes_apart}
 
 -- ---- rows that are sets
 
-module _ (n members : ℕ) (rows : List ℕ) (i : ℕ) (few : n ≤ 32) (all : members ≡ first_of n) (within : i < length rows) (so_far : Tested (is_set n) rows i) where
-  row_test : (b : Bool) → leb (get_or rows i 0) members ≡ b → is_set n (get_or rows i 0) ≡ b
-  row_test b e = sym (first_of-is_set n (get_or rows i 0) few) ∙ ap (leb (get_or rows i 0)) (sym all) ∙ e
-
-  pub row_beyond : members < get_or rows i 0 → false ≡ each (is_set n) rows
-  row_beyond h = tested_fails (is_set n) rows i so_far 0 within (row_test false (lt-leb (get_or rows i 0) members h))
-
-  pub row_within : get_or rows i 0 ≤ members → Tested (is_set n) rows (i + 1)
-  row_within h = tested_next (is_set n) rows i so_far 0 within (row_test true (le-leb (get_or rows i 0) members h))
+pub rows_tested : (n : ℕ) (rows : List ℕ) (all : ℕ) → n ≤ 32 → all ≡ first_of n → list_all (λ row. leb row all) rows ≡ each (is_set n) rows
+unfolding each
+rows_tested n [] all few e = refl
+rows_tested n (row ∷ rows) all few e =
+    ap₂ ◌&&◌ (ap (leb row) e ∙ first_of-is_set n row few) (rows_tested n rows all few e)
 
 -- ---- counting
 
-module _ (t : ℕ) (rows : List ℕ) (i : ℕ) (counts : List ℕ) (filled : Filled (votes t rows (first_of (size t))) (size t) counts i) where
-  pub counted_next : (n everybody w : ℕ) → Table t rows → n ≡ size t → everybody ≡ first_of n → i < size t → w ≡ common (get_or rows i 0) everybody
-      → Filled (votes t rows (first_of (size t))) (size t) (set counts i w) (i + 1)
-  unfolding votes
-  counted_next n everybody w table sized all h e =
-      let few : size t ≤ 32 = size_32 t table.few in
-      filled_next (votes t rows (first_of (size t))) (size t) counts i w h filled
-      (e ∙ ap (common (get_or rows i 0)) (all ∙ ap first_of sized) ∙ common-count (size t) (get_or rows i 0) (first_of (size t)) few (first_of-lt (size t) few))
-
-  pub counted_last : size t ≤ i → counts ≡ counted t rows (first_of (size t))
-  unfolding counted
-  counted_last h = filled_last (votes t rows (first_of (size t))) (size t) counts i h filled
+-- the votes of row i from everybody
+pub votes_counted : (t : ℕ) (rows : List ℕ) (i n everybody : ℕ) → Table t rows → n ≡ size t → everybody ≡ first_of n
+    → common (get_or rows i 0) everybody ≡ votes t rows (first_of (size t)) i
+unfolding votes
+votes_counted t rows i n everybody table sized all =
+    let few : size t ≤ 32 = size_32 t table.few in
+    ap (common (get_or rows i 0)) (all ∙ ap first_of sized) ∙ common-count (size t) (get_or rows i 0) (first_of (size t)) few (first_of-lt (size t) few)
 
 pub counted_long : (t : ℕ) (rows : List ℕ) (set : ℕ) (counts : List ℕ) → counts ≡ counted t rows set → length counts ≡ size t
 unfolding counted
 counted_long t rows set counts e = ap length e ∙ length-tab (size t) (votes t rows set)
 
--- a set of the n members has no bit beyond the counts
-pub counted_below : (t : ℕ) (rows : List ℕ) (set : ℕ) (counts : List ℕ) → set < 2 ^ size t → counts ≡ counted t rows set → set < 2 ^ length counts
-counted_below t rows set counts h e = subst (λ (n : ℕ). set < 2 ^ n) (sym (counted_long t rows set counts e)) h
-
 -- ---- one strike
 
--- the counts of the first k members are those after the strike, the others still those before it
-abbrev pub Subtracted : ℕ → List ℕ → ℕ → ℕ → List ℕ → ℕ → Type 0
-Subtracted t rows set i counts k = Replaced (votes t rows set) (votes t rows (striking set i)) 0 (size t) counts k
-
-module _ (t : ℕ) (rows : List ℕ) (from i : ℕ) where
-  pub strike_first : (counts : List ℕ) → counts ≡ counted t rows from → Subtracted t rows from i counts 0
-  unfolding counted
-  strike_first counts e = replaced_first (votes t rows from) (votes t rows (striking from i)) 0 (size t) counts e
-
-  module _ (k : ℕ) (counts : List ℕ) (so_far : Subtracted t rows from i counts k) where
-    module _ (table : Table t rows) (inside : i < size t) (member : has from i ≡ true) (h : k < size t) where
-      at_k : get_or counts k 0 ≡ to_ℕ (has (get_or rows k 0) i) + votes t rows (striking from i) k
-      at_k = so_far.left k (le_refl k) h ∙ votes_apart t rows from i table.few inside member k
-
-      -- there is a vote to take off
-      pub strike_can : to_ℕ (has (get_or rows k 0) i) ≤ get_or counts k 0
-      strike_can = omega (arith, at_k)
-
-      pub strike_next : (w : ℕ) → w ≡ get_or counts k 0 - to_ℕ (has (get_or rows k 0) i) → Subtracted t rows from i (set counts k w) (k + 1)
-      strike_next w e = replaced_next (votes t rows from) (votes t rows (striking from i)) 0 (size t) counts k w h so_far (omega (arith, at_k))
-
-    pub strike_last : (left : ℕ) → size t ≤ k → left ≡ striking from i → AfterStrike t rows from i left counts
-    unfolding counted
-    strike_last left h e =
-        record {
-          without = e;
-          exact = replaced_last (votes t rows from) (votes t rows (striking from i)) 0 (size t) counts k h so_far ∙ ap (counted t rows) (sym e);
-        }
+-- a count that the strike of member i has not come to yet is that member's vote and the votes that are left
+pub vote_there : (t : ℕ) (rows : List ℕ) (set i k : ℕ) (counts : List ℕ) → Table t rows → i < size t → has set i ≡ true → k < size t
+    → drop k counts ≡ drop k (counted t rows set) → get_or counts k 0 ≡ to_ℕ (has (get_or rows k 0) i) + votes t rows (striking set i) k
+unfolding counted
+vote_there t rows set i k counts table inside member h kept =
+    read_kept counts (tab (size t) (votes t rows set)) k 0 kept
+    ∙ get_or-tab (size t) (votes t rows set) k 0 h
+    ∙ votes_apart t rows set i table.few inside member k
 
 -- ---- the next short member
 
@@ -102,43 +70,21 @@ pub record Looking (need from : ℕ) (counts : List ℕ) (rest : ℕ) : Type 0 w
   pub enough : (k : ℕ) → has from k ≡ true → (has rest k ≡ true) ⊎ (need ≤ get_or counts k 0)
 
 module _ (need from : ℕ) (counts : List ℕ) where
-  pub looking_first : Looking need from counts from
-  looking_first = record { most = le_refl from; part = λ k y. y; enough = λ k y. inl y }
-
-  pub looking_none : (rest : ℕ) → Looking need from counts rest → rest ≤ 0 → FirstShort need from counts (length counts)
-  looking_none rest l none =
-      let e : rest ≡ 0 = omega arith in
+  pub looking_none : (rest : ℕ) → Looking need from counts rest → rest ≡ 0 → NobodyShort need from counts
+  looking_none rest l e =
       record {
-        inside = le_refl (length counts);
-        enough_before = λ k b y. ⊎_elim (λ r. absurd (clash r (ap (λ (x : ℕ). has x k) e ∙ has-zero k))) (λ e. e) (l.enough k y);
-        member = λ b. absurd (lt_irrefl _ b);
-        short = λ b. absurd (lt_irrefl _ b);
+        enough = λ k y. ⊎_elim (λ r. absurd (clash r (ap (λ (x : ℕ). has x k) e ∙ has-zero k))) (λ e. e) (l.enough k y);
       }
 
-  module _ (rest i : ℕ) (looking : Looking need from counts rest) (low : Lowest rest i) (narrow : from < 2 ^ 32) (some : 0 < rest) where
+  module _ (rest i : ℕ) (looking : Looking need from counts rest) (low : First rest i) (narrow : from < 2 ^ 32) where
     small : rest < 2 ^ 32
     small = lt_of_le_of_lt looking.most narrow
 
-    in_mask : i < 32
-    in_mask = lowest_member rest i small some low
-
-    in_rest : has rest i ≡ true
-    in_rest = low.member in_mask
-
     pub looking_inside : from < 2 ^ length counts → i < length counts
-    looking_inside h = has_inside (length counts) rest i (lt_of_le_of_lt looking.most h) in_rest
-
-    pub looking_found : from < 2 ^ length counts → get_or counts i 0 < need → FirstShort need from counts i
-    looking_found h few =
-        record {
-          inside = le_of_lt (looking_inside h);
-          enough_before = λ k b y. ⊎_elim (λ r. absurd (clash r (low.none_before k b))) (λ e. e) (looking.enough k y);
-          member = λ b. looking.part i in_rest;
-          short = λ b. few;
-        }
+    looking_inside h = has_inside (length counts) rest i (lt_of_le_of_lt looking.most h) low.member
 
     pub looking_less : (next : ℕ) → next ≡ striking rest i → next < rest
-    looking_less next e = subst (λ (x : ℕ). x < rest) (sym e) (striking_less rest i small in_mask in_rest)
+    looking_less next e = subst (λ (x : ℕ). x < rest) (sym e) (striking_less rest i small low.inside low.member)
 
     pub looking_next : (next : ℕ) → next ≡ striking rest i → need ≤ get_or counts i 0 → Looking need from counts next
     looking_next next e h =
@@ -176,55 +122,44 @@ module _ (t : ℕ) (rows : List ℕ) (table : Table t rows) where
         exact = e ∙ ap (counted t rows) (sym everybody);
       }
 
-  pub going_below : (set : ℕ) (counts : List ℕ) → Going t rows set counts → set < 2 ^ length counts
-  going_below set counts going = counted_below t rows set counts going.below going.exact
-
   module _ (set : ℕ) (counts : List ℕ) (going : Going t rows set counts) where
+    pub going_below : set < 2 ^ length counts
+    going_below = subst (λ (n : ℕ). set < 2 ^ n) (sym (counted_long t rows set counts going.exact)) going.below
+
     count_of : (k : ℕ) → k < size t → get_or counts k 0 ≡ votes t rows set k
     unfolding counted
     count_of k h = ap (λ (l : List ℕ). get_or l k 0) going.exact ∙ get_or-tab (size t) (votes t rows set) k 0 h
 
-    module _ (need i : ℕ) (first : FirstShort need set counts i) where
-      -- nobody is short: the set is closed
-      pub going_done : t + 1 ≤ need → size t ≤ i → set ≡ survivors t rows
-      going_done enough h = struck_survivors t rows set going.below going.above (record { accepted = votes_enough })
-        where
-          votes_enough : (k : ℕ) → k < size t → has set k ≡ true → suc t ≤ votes t rows set k
-          votes_enough k l y =
-              omega (arith, enough, count_of k l, first.enough_before k (lt_of_lt_of_le l h) y)
+    -- nobody is short: the set is closed
+    pub going_done : (need : ℕ) → t + 1 ≤ need → NobodyShort need set counts → set ≡ survivors t rows
+    going_done need most nobody = struck_survivors t rows set going.below going.above (record { accepted = votes_enough })
+      where
+        votes_enough : (k : ℕ) → k < size t → has set k ≡ true → suc t ≤ votes t rows set k
+        votes_enough k l y = omega (arith, most, count_of k l, nobody.enough k y)
 
-      module _ (inside : i < size t) where
-        counted_inside : i < length counts
-        counted_inside = omega (arith, counted_long t rows set counts going.exact)
+    module _ (need i : ℕ) (first : Short need set counts i) where
+      pub short_inside : i < size t
+      short_inside = has_inside (size t) set i going.below first.member
 
-        pub short_member : has set i ≡ true
-        short_member = first.member counted_inside
+      votes_few : votes t rows set i < need
+      votes_few = omega (arith, count_of i short_inside, first.short)
 
-        votes_few : votes t rows set i < need
-        votes_few = omega (arith, count_of i inside, first.short counted_inside)
+      module _ (left : ℕ) (after : List ℕ) (strike : AfterStrike t rows set i left after) where
+        keeps : need ≤ t + 1 → (k : ℕ) → k < size t → has set k ≡ true → suc t ≤ votes t rows set k → has left k ≡ true
+        keeps most k l y v =
+            ap (λ (x : ℕ). has x k) strike.without ∙ has-striking set i k (lt_of_lt_of_le l room)
+            ∙ and_intro y (ap not (ne_eqb k i (λ e. not-le_of_lt (lt_of_lt_of_le votes_few most) (rw add-one (subst (λ (x : ℕ). suc t ≤ votes t rows set x) e v)))))
 
-        module _ (left : ℕ) (after : List ℕ) (strike : AfterStrike t rows set i left after) where
-          keeps : need ≤ t + 1 → (k : ℕ) → k < size t → has set k ≡ true → suc t ≤ votes t rows set k → has left k ≡ true
-          keeps most k l y v =
-              ap (λ (x : ℕ). has x k) strike.without ∙ has-striking set i k (lt_of_lt_of_le l room)
-              ∙ and_intro y (ap not (ne_eqb k i (λ e. not-le_of_lt (lt_of_lt_of_le votes_few most) (rw add-one (subst (λ (x : ℕ). suc t ≤ votes t rows set x) e v)))))
+        narrow : set < 2 ^ 32
+        narrow = lt_of_lt_of_le going.below (pow_mono room)
 
-          narrow : set < 2 ^ 32
-          narrow = lt_of_lt_of_le going.below (pow_mono room)
+        pub going_less : left < set
+        going_less = subst (λ (x : ℕ). x < set) (sym strike.without) (striking_less set i narrow (lt_of_lt_of_le short_inside room) first.member)
 
-          left_below : left < 2 ^ size t
-          left_below = subst (λ (x : ℕ). x < 2 ^ size t) (sym strike.without) (lt_of_le_of_lt (striking-le set i narrow (lt_of_lt_of_le inside room)) going.below)
-
-          pub strike_below : left < 2 ^ length after
-          strike_below = counted_below t rows left after left_below strike.exact
-
-          pub going_on : need ≤ t + 1 → Going t rows left after
-          going_on most =
-              record {
-                below = left_below;
-                above = above_strike t rows set left going.above (keeps most);
-                exact = strike.exact;
-              }
-
-          pub going_less : left < set
-          going_less = subst (λ (x : ℕ). x < set) (sym strike.without) (striking_less set i narrow (lt_of_lt_of_le inside room) short_member)
+        pub going_on : need ≤ t + 1 → Going t rows left after
+        going_on most =
+            record {
+              below = lt_trans going_less going.below;
+              above = above_strike t rows set left going.above (keeps most);
+              exact = strike.exact;
+            }

@@ -9,12 +9,7 @@ ghost use Rattle.pruning.specs.Counts.{Table, counted, AfterStrike};
 ghost use Rattle.pruning.specs.Answer.{answer_of};
 ghost use Rattle.pruning.specs.Internal.Steps.{FirstShort};
 
-// The survivors, or the number of the refusal.
-#[derive(Clone, Copy)]
-pub enum Survivors {
-    Left(u32),
-    Refused(u16),
-}
+use refusals::Refusal;
 
 // Every row is a set of the n members.
 fn sets(n: usize, rows: &[u32]) -> bool
@@ -22,29 +17,7 @@ fn sets(n: usize, rows: &[u32]) -> bool
     ensures { result ≡ each (is_set n) rows.now }
 {
     let all = members::first(n);
-    let mut k = 0;
-    while k < rows.len() {
-        if all < rows[k] {
-            return false;
-        }
-        k += 1;
-    }
-    true
-}
-
-// Counts each member's votes from everybody.
-fn count_votes(t: usize, rows: &[u32], counts: &mut [u32])
-    requires table { Table t rows.now }
-    requires counts_len { length counts.old ≡ size t }
-    ensures { counts.new ≡ counted t rows.now (first_of (size t)) }
-{
-    let n = members::size(t);
-    let everybody = members::first(n);
-    let mut i = 0;
-    while i < n {
-        counts[i] = members::common(rows[i], everybody);
-        i += 1;
-    }
+    rows.iter().all(|row| *row <= all)
 }
 
 // A member's votes once i is struck: one fewer if i accepted it.
@@ -58,88 +31,103 @@ fn votes_left(row: u32, i: usize, votes: u32) -> u32
     votes
 }
 
-// Strikes member i, and takes its vote off the count of each whom it accepted. Gives those left.
-fn strike(t: usize, rows: &[u32], set: u32, i: usize, counts: &mut [u32]) -> u32
-    requires table { Table t rows.now }
-    requires i_bound { (i < size t) × (has set i ≡ true) }
-    requires counts_value { counts.old ≡ counted t rows.now set }
-    ensures { AfterStrike t rows.now set i result counts.new }
-{
-    let n = members::size(t);
-    let mut k = 0;
-    while k < n {
-        counts[k] = votes_left(rows[k], i, counts[k]);
-        k += 1;
-    }
-    members::without(set, i)
-}
-
-// The first member of the set that is short of the votes needed, or how many counts there are where nobody is.
-fn next_short(need: usize, set: u32, counts: &[u32]) -> usize
+// The first member of the set that is short of the votes needed; None: nobody is.
+fn next_short(need: usize, set: u32, counts: &[u32]) -> Option<usize>
     requires { set < 2 ^ length counts.now }
     ensures { FirstShort need set counts.now result }
 {
     let mut rest = set;
-    while 0 < rest {
-        let i = members::lowest(rest);
+    while let Some(i) = members::lowest(rest) {
         if (counts[i] as usize) < need {
-            return i;
+            return Some(i);
         }
         rest = members::without(rest, i);
     }
-    counts.len()
+    None
 }
 
-// Strikes short members one after the other, from everybody on, until nobody is short.
-fn strike_short(t: usize, rows: &[u32], counts: &mut [u32]) -> u32
-    requires table { Table t rows.now }
-    requires counts_value { counts.old ≡ counted t rows.now (first_of (size t)) }
-    ensures { (result ≡ survivors t rows.now) × (counts.new ≡ counted t rows.now result) }
-{
-    let n = members::size(t);
-    let need = t + 1;
-    let mut set = members::first(n);
-    let mut next = next_short(need, set, counts);
-    while next < n {
-        set = strike(t, rows, set, next, counts);
-        next = next_short(need, set, counts);
+// A station's votes.
+#[derive(Clone, Copy)]
+struct Votes<'a> {
+    t: usize,
+    rows: &'a [u32],
+    ghost table: { Table t rows.now },
+}
+
+impl<'a> Votes<'a> {
+    // Each member's votes from everybody.
+    #[tactic(auto, using(lists::proofs::Loops::writes, crate::proofs::Steps::votes_counted), unfolding(crate::specs::Counts::counted))]
+    fn count(&self, counts: &mut [u32])
+        requires { length counts.old ≡ size self.now.t }
+        ensures { counts.new ≡ counted self.now.t self.now.rows.now (first_of (size self.now.t)) }
+    {
+        let everybody = members::first(members::size(self.t));
+        for (i, count) in counts.iter_mut().enumerate() {
+            *count = members::common(self.rows[i], everybody);
+        }
     }
-    set
-}
 
-// Counts, then strikes: what pruning does once its checks are passed.
-fn count_and_strike(t: usize, rows: &[u32], counts: &mut [u32]) -> u32
-    requires table { Table t rows.now }
-    requires counts_len { length counts.old ≡ size t }
-    ensures { (result ≡ survivors t rows.now) × (counts.new ≡ counted t rows.now result) }
-{
-    count_votes(t, rows, counts);
-    strike_short(t, rows, counts)
-}
+    // Strikes member i, and takes its vote off the count of each whom it accepted. Gives those left.
+    #[tactic(auto, using(lists::proofs::Loops::rewrites, crate::proofs::Steps::vote_there, crate::proofs::Steps::counted_long), unfolding(crate::specs::Counts::counted))]
+    fn strike(&self, set: u32, i: usize, counts: &mut [u32]) -> u32
+        requires i_bound { (i < size self.now.t) × (has set i ≡ true) }
+        requires counts_value { counts.old ≡ counted self.now.t self.now.rows.now set }
+        ensures { AfterStrike self.now.t self.now.rows.now set i result counts.new }
+    {
+        for (k, count) in counts.iter_mut().enumerate() {
+            *count = votes_left(self.rows[k], i, *count);
+        }
+        members::without(set, i)
+    }
 
-// The survivors. Makes the room for n counts.
-fn struck(t: usize, rows: &[u32]) -> u32
-    requires { Table t rows.now }
-    ensures { result ≡ survivors t rows.now }
-{
-    let n = members::size(t);
-    let mut counts = [0u32; 31];
-    count_and_strike(t, rows, &mut counts[..n])
+    // Strikes short members one after the other, from everybody on, until nobody is short.
+    fn strike_short(&self, counts: &mut [u32]) -> u32
+        requires { counts.old ≡ counted self.now.t self.now.rows.now (first_of (size self.now.t)) }
+        ensures { (result ≡ survivors self.now.t self.now.rows.now)
+            × (counts.new ≡ counted self.now.t self.now.rows.now result) }
+    {
+        let need = self.t + 1;
+        let mut set = members::first(members::size(self.t));
+        while let Some(i) = next_short(need, set, counts) {
+            set = self.strike(set, i, counts);
+        }
+        set
+    }
+
+    // Counts, then strikes: what pruning does once its checks are passed.
+    fn count_and_strike(&self, counts: &mut [u32]) -> u32
+        requires { length counts.old ≡ size self.now.t }
+        ensures { (result ≡ survivors self.now.t self.now.rows.now)
+            × (counts.new ≡ counted self.now.t self.now.rows.now result) }
+    {
+        self.count(counts);
+        self.strike_short(counts)
+    }
+
+    // The survivors. Makes the room for n counts.
+    #[tactic(auto, unfolding(members::specs::Members::size))]
+    fn survivors(&self) -> u32
+        ensures { result ≡ survivors self.now.t self.now.rows.now }
+    {
+        let mut counts = [0u32; 31];
+        self.count_and_strike(&mut counts[..members::size(self.t)])
+    }
 }
 
 // The survivors of the votes; refusals 1, 10 and 12.
-pub fn prune(t: usize, rows: &[u32]) -> Survivors
+#[tactic(auto, unfolding(crate::specs::Pruning::prune, members::specs::Members::size))]
+pub fn prune(t: usize, rows: &[u32]) -> Result<u32, Refusal>
     ensures { answer_of result ≡ prune t rows.now }
 {
     if !members::threshold(t) {
-        return Survivors::Refused(1);
+        return Err(Refusal::BadThreshold);
     }
     let n = members::size(t);
     if rows.len() != n {
-        return Survivors::Refused(10);
+        return Err(Refusal::BadRowsLength);
     }
     if !sets(n, rows) {
-        return Survivors::Refused(12);
+        return Err(Refusal::MemberBeyondN);
     }
-    Survivors::Left(struck(t, rows))
+    Ok(Votes { t, rows }.survivors())
 }
