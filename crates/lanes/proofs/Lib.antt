@@ -1,3 +1,3 @@
 -- What is proved of this crate.
-pub mod Gathered
+pub mod Arrays
 pub mod Values

@@ -1,10 +1,11 @@
 // One list of words, as a polynomial's coefficients, at 32 points at once: a lane for each point, eight coefficients at a time.
 #![tactic(auto)]
 
-ghost use Rattle.std.specs.Prelude.{◌≡◌, ◌+◌, ◌*◌, ◌/◌, ◌<◌, ◌≤◌, length, get_or, drop};
+ghost use Rattle.std.specs.Prelude.{◌≡◌, [], ◌+◌, ◌*◌, ◌<◌, ◌≤◌, get_or};
 ghost use Rattle.lists.specs.Tabulate.{tab};
+ghost use Rattle.field.specs.Field.{sum, product};
 ghost use Rattle.polynomial.specs.Polynomial.{value};
-ghost use Rattle.lanes.specs.Internal.Lanes.{Copied, PowerRows, values_from};
+ghost use Rattle.lanes.specs.Internal.Lanes.{nth_power, eight_before};
 
 // A sum of products of two words: the low halves of the products added up, and the high halves.
 #[derive(Clone, Copy)]
@@ -25,144 +26,76 @@ fn accumulate(sum: Halves, a: u16, b: u16) -> Halves
     }
 }
 
-// One lane: the value of the words from `at` on, from that of the words eight further on.
-fn lane(words: &[u16], at: usize, rows: &[u16], j: usize, after: u16) -> u16
-    requires at_in_bounds { (at + 8 ≤ length words.now) × (j < 32) }
-    requires power_rows { PowerRows rows.now rows.now 224 }
-    requires after_value { after ≡ value (drop (at + 8) words.now) (get_or rows.now j 0) }
-    ensures { result ≡ value (drop at words.now) (get_or rows.now j 0) }
+// One lane: the value of eight words and those after them, from that of those after them. The rows have the lane's point, its square, and so on.
+fn lane(eight: &[u16; 8], rows: &[[u16; 32]; 8], j: usize, after: u16) -> u16
+    requires { j < 32 }
+    ensures { result ≡ eight_before eight.now (λ m. get_or (get_or rows.now m []) j 0) after }
 {
     let mut sum = Halves {
-        low: words[at] as u32,
+        low: eight[0] as u32,
         high: 0,
     };
-    let mut m = 0;
-    while m < 7 {
-        sum = accumulate(sum, rows[32 * m + j], words[at + m + 1]);
-        m = m + 1;
+    for m in 0..7 {
+        sum = accumulate(sum, rows[m][j], eight[m + 1]);
     }
-    let all = accumulate(sum, rows[224 + j], after);
+    let all = accumulate(sum, rows[7][j], after);
     field::join_halves(all.low, all.high)
 }
 
 // Eight words put in front, in every lane.
-fn block(words: &[u16], at: usize, rows: &[u16], values: &mut [u16])
-    requires at_in_bounds { at + 8 ≤ length words.now }
-    requires power_rows { PowerRows rows.now rows.now 224 }
-    requires values_value { values.old ≡ values_from words.now rows.now (at + 8) }
-    ensures { values.new ≡ values_from words.now rows.now at }
+#[tactic(auto, using(crate::proofs::Arrays::rewrites))]
+fn block(eight: &[u16; 8], rows: &[[u16; 32]; 8], values: &mut [u16; 32])
+    ensures { values.new ≡ tab 32 (λ j. eight_before eight.now (λ m. get_or (get_or rows.now m []) j 0) (get_or values.old j 0)) }
 {
-    let mut j = 0;
-    while j < 32 {
-        values[j] = lane(words, at, rows, j, values[j]);
-        j = j + 1;
+    for (j, value) in values.iter_mut().enumerate() {
+        *value = lane(eight, rows, j, *value);
     }
 }
 
 // One word put in front, in every lane.
-fn one(words: &[u16], at: usize, rows: &[u16], values: &mut [u16])
-    requires at_in_bounds { (at < length words.now) × (length rows.now ≡ 256) }
-    requires values_value { values.old ≡ values_from words.now rows.now (at + 1) }
-    ensures { values.new ≡ values_from words.now rows.now at }
+#[tactic(auto, using(crate::proofs::Arrays::rewrites))]
+fn one(word: u16, points: &[u16; 32], values: &mut [u16; 32])
+    ensures { values.new ≡ tab 32 (λ j. sum word (product (get_or points.now j 0) (get_or values.old j 0))) }
 {
-    let word = words[at];
-    let mut j = 0;
-    while j < 32 {
-        values[j] = field::add_product(word, rows[j], values[j]);
-        j = j + 1;
+    for (j, value) in values.iter_mut().enumerate() {
+        *value = field::add_product(word, points[j], *value);
     }
 }
 
-// The words past the last whole eight, one at a time.
-fn odd_words(words: &[u16], rows: &[u16], values: &mut [u16])
-    requires { (length rows.now ≡ 256) × (length values.old ≡ 32) }
-    ensures { values.new ≡ values_from words.now rows.now (8 * (length words.now / 8)) }
+// The next powers, in place of the row's.
+#[tactic(auto, using(crate::proofs::Arrays::rewrites))]
+fn next_powers(row: &mut [u16; 32], points: &[u16; 32])
+    ensures { row.new ≡ tab 32 (λ j. product (get_or row.old j 0) (get_or points.now j 0)) }
 {
-    lists::fill(values, 0);
-    let whole = 8 * (words.len() / 8);
-    let mut at = words.len();
-    while whole < at {
-        at = at - 1;
-        one(words, at, rows, values);
-    }
-}
-
-// The words before, eight at a time.
-fn eights(words: &[u16], rows: &[u16], values: &mut [u16])
-    requires power_rows { PowerRows rows.now rows.now 224 }
-    requires values_value { values.old ≡ values_from words.now rows.now (8 * (length words.now / 8)) }
-    ensures { values.new ≡ values_from words.now rows.now 0 }
-{
-    let mut k = words.len() / 8;
-    while 0 < k {
-        k = k - 1;
-        block(words, 8 * k, rows, values);
-    }
-}
-
-// The first 32 words of one buffer, in another.
-fn copy(from: &[u16], to: &mut [u16])
-    requires { (length from.now ≡ 32) × (32 ≤ length to.old) }
-    ensures { Copied from.now to.old to.new }
-{
-    let mut j = 0;
-    while j < 32 {
-        to[j] = from[j];
-        j = j + 1;
-    }
-}
-
-// Row m + 1: the points' powers m + 2, from row m.
-fn next_row(rows: &mut [u16], m: usize)
-    requires power_rows { PowerRows rows.old rows.old (32 * m) }
-    requires m_bound { m < 7 }
-    ensures { PowerRows rows.old rows.new (32 * (m + 1)) }
-{
-    let from = 32 * m;
-    let mut j = 0;
-    while j < 32 {
-        rows[from + 32 + j] = field::multiply(rows[from + j], rows[j]);
-        j = j + 1;
+    for (j, power) in row.iter_mut().enumerate() {
+        *power = field::multiply(*power, points[j]);
     }
 }
 
 // The points' powers 1 to 8, a row for each.
-fn powers(points: &[u16], rows: &mut [u16])
-    requires { (length points.now ≡ 32) × (length rows.old ≡ 256) }
-    ensures { PowerRows points.now rows.new 224 }
+fn powers(points: &[u16; 32], rows: &mut [[u16; 32]; 8])
+    ensures { rows.new ≡ tab 8 (λ m. tab 32 (λ j. nth_power (get_or points.now j 0) m)) }
 {
-    copy(points, rows);
-    let mut m = 0;
-    while m < 7 {
-        next_row(rows, m);
-        m = m + 1;
+    let mut power = *points;
+    rows[0] = power;
+    for m in 0..7 {
+        next_powers(&mut power, points);
+        rows[m + 1] = power;
     }
 }
 
-// The values at the points, with room for the points' powers and for the lanes.
-fn evaluate_with(
-    words: &[u16],
-    points: &[u16],
-    rows: &mut [u16],
-    lanes: &mut [u16],
-    values: &mut [u16],
-)
-    requires points_len { (length points.now ≡ 32) × (length values.old ≡ 32) }
-    requires rows_len { (length rows.old ≡ 256) × (length lanes.old ≡ 32) }
-    ensures { values.new ≡ tab 32 (λ j. value words.now (get_or points.now j 0)) }
-{
-    powers(points, rows);
-    odd_words(words, rows, lanes);
-    eights(words, rows, lanes);
-    copy(lanes, values);
-}
-
 // The value at each of 32 points of the polynomial with these coefficients.
-pub fn evaluate_at(words: &[u16], points: &[u16], values: &mut [u16])
-    requires { (length points.now ≡ 32) × (length values.old ≡ 32) }
+pub fn evaluate_at(words: &[u16], points: &[u16; 32], values: &mut [u16; 32])
     ensures { values.new ≡ tab 32 (λ j. value words.now (get_or points.now j 0)) }
 {
-    let mut rows = [0u16; 256];
-    let mut lanes = [0u16; 32];
-    evaluate_with(words, points, &mut rows, &mut lanes, values);
+    let (eights, odd) = words.as_chunks::<8>();
+    values.fill(0);
+    for word in odd.iter().rev() {
+        one(*word, points, values);
+    }
+    let mut rows = [[0u16; 32]; 8];
+    powers(points, &mut rows);
+    for eight in eights.iter().rev() {
+        block(eight, &rows, values);
+    }
 }

@@ -4,6 +4,11 @@ use mathlib.Core.Path.{◌≡◌, sym, ap, ◌∙◌}
 use mathlib.Core.List.{List, ◌∷◌}
 use Prim.Native.Nat.{ℕ, ◌+◌, ◌*◌, ◌%◌, ◌<◌}
 use native.Mathlib.Omega.{arith}
+use lib.ListN.{get_or, drop}
+use Rattle.lists.specs.Tabulate.{tab}
+use Rattle.lists.proofs.Loops.{tab_none, written_next, read_kept, kept_next}
+use Rattle.lists.proofs.Tabulate.{get_or-tab}
+use Rattle.lanes.proofs.Arrays.{rewritten_last}
 use Rattle.field.specs.Field.{prime, sum, product}
 use Rattle.field.proofs.Congruence.{◌≈◌, same_refl, same_sym, same_trans, same_eq, eq_same, reduced, times, ◌⊕◌, ◌⊗◌, lc}
 use Rattle.field.proofs.Operations.{mod-word, sum_same, sum-word, product_same}
@@ -54,3 +59,10 @@ tag_by_products α β a s v r ms es ev er =
     er
     ∙ eq_same (mod-word (β + α * a + s * v)) (tag_word α β (a ∷ ms))
     (same_trans (reduced (β + α * a + s * v)) (same_trans sum (same_trans (same_eq (omega arith)) (same_sym (tag_same α β (a ∷ ms))))))
+
+-- the value in a lane that is still as it was
+pub lane_kept : (f : ℕ → ℕ) (l : List ℕ) (j : ℕ) → j < 32 → drop j l ≡ drop j (tab 32 f) → get_or l j 0 ≡ f j
+lane_kept f l j h e = read_kept l (tab 32 f) j 0 e ∙ get_or-tab 32 f j 0 h
+
+-- for a loop that turns each value of the rest into the tag
+pub ruleset under_all_keys = (tab_none, written_next, kept_next, rewritten_last, lane_kept, tag_two)

@@ -1,11 +1,12 @@
 // The tag of a list of words under a key, whole or as its first word and the rest; and the latter under 32 keys at once.
 #![tactic(auto)]
 
-ghost use Rattle.std.specs.Prelude.{◌≡◌, ◌∷◌, length, get_or};
+ghost use Rattle.std.specs.Prelude.{◌≡◌, ◌∷◌, get_or};
 ghost use Rattle.lists.specs.Tabulate.{tab};
 ghost use Rattle.mac.specs.Tag.{tag as tag_of};
 
 // One pass over the words.
+#[tactic(auto, using(crate::proofs::Tags::tag_from))]
 pub fn tag(alpha: u16, beta: u16, words: &[u16]) -> u16
     ensures { result ≡ tag_of alpha beta words.now }
 {
@@ -13,6 +14,7 @@ pub fn tag(alpha: u16, beta: u16, words: &[u16]) -> u16
 }
 
 // The tag of a first word and the rest, which need not stand together: the first has power 1, and the rest begin at power 2.
+#[tactic(auto, using(crate::proofs::Tags::tag_by_products))]
 pub fn tag_with_first(alpha: u16, beta: u16, first: u16, rest: &[u16]) -> u16
     ensures { result ≡ tag_of alpha beta (first ∷ rest.now) }
 {
@@ -22,16 +24,19 @@ pub fn tag_with_first(alpha: u16, beta: u16, first: u16, rest: &[u16]) -> u16
 }
 
 // Under 32 keys at once, the tags of a first word and the rest, which need not stand together: the first has power 1, and the rest begin at power 2.
-pub fn tags_with_first(alphas: &[u16], betas: &[u16], first: u16, rest: &[u16], tags: &mut [u16])
-    requires { (length alphas.now ≡ 32) × (length betas.now ≡ 32) × (length tags.old ≡ 32) }
+#[tactic(auto, using(crate::proofs::Tags::under_all_keys))]
+pub fn tags_with_first(
+    alphas: &[u16; 32],
+    betas: &[u16; 32],
+    first: u16,
+    rest: &[u16],
+    tags: &mut [u16; 32],
+)
     ensures { tags.new ≡ tab 32 (λ j. tag_of (get_or alphas.now j 0) (get_or betas.now j 0) (first ∷ rest.now)) }
 {
     lanes::evaluate_at(rest, alphas, tags);
-    let mut j = 0;
-    while j < 32 {
-        let alpha = alphas[j];
-        let value = field::add_product(first, alpha, tags[j]);
-        tags[j] = field::add_product(betas[j], alpha, value);
-        j = j + 1;
+    for (j, tag) in tags.iter_mut().enumerate() {
+        let value = field::add_product(first, alphas[j], *tag);
+        *tag = field::add_product(betas[j], alphas[j], value);
     }
 }

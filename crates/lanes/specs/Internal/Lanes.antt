@@ -1,21 +1,14 @@
--- The points' powers and the lanes' values, for the contracts of the functions that make them.
+-- The points' powers and eight steps at once, for the contracts of the functions that make them.
 -- Assumes nothing.
-use Rattle.std.specs.Prelude.{ℕ, ◌+◌, ◌%◌, ◌<◌, ◌≡◌, List, length, get_or, drop}
-use Rattle.lists.specs.Tabulate.{tab}
-use Rattle.field.specs.Field.{product}
-use Rattle.polynomial.specs.Polynomial.{value}
+use Rattle.std.specs.Prelude.{ℕ, zero, suc, ◌+◌, ◌*◌, ◌%◌, List, get_or}
+use Rattle.lists.specs.Tabulate.{sum_to}
+use Rattle.field.specs.Field.{prime, product}
 
--- the first 32 words are those of another list
-pub record Copied (from before after : List ℕ) : Type 0 where
-  pub kept : length after ≡ length before
-  pub same : (j : ℕ) → j < 32 → get_or after j 0 ≡ get_or from j 0
+-- x, x², x³, .. modulo p, the first as it is
+unfoldable pub nth_power : ℕ → ℕ → ℕ
+nth_power x zero = x
+nth_power x (suc m) = product (nth_power x m) x
 
--- eight rows of 32 words: the points, and from there on n words, each the one 32 places before times its point
-pub record PowerRows (points rows : List ℕ) (n : ℕ) : Type 0 where
-  pub long : length rows ≡ 256
-  pub first : (j : ℕ) → j < 32 → get_or rows j 0 ≡ get_or points j 0
-  pub steps : (p : ℕ) → p < n → get_or rows (p + 32) 0 ≡ product (get_or rows p 0) (get_or rows (p % 32) 0)
-
--- the values at the points of the words from a place on
-unfoldable pub values_from : List ℕ → List ℕ → ℕ → List ℕ
-values_from words points at = tab 32 (λ j. value (drop at words) (get_or points j 0))
+-- eight words before a value: the first, each of the others times its power, and the value times the last power
+unfoldable pub eight_before : List ℕ → (ℕ → ℕ) → ℕ → ℕ
+eight_before words power after = (get_or words 0 0 + sum_to 7 (λ m. power m * get_or words (m + 1) 0) + power 7 * after) % prime
