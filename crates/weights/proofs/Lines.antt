@@ -1,8 +1,8 @@
 -- Laws of the table's lines: a line as the code writes it, its room, and the table in a buffer that it fills.
 -- Assumes nothing.
-use mathlib.Core.Path.{◌≡◌, ap, ap₂, ◌∙◌}
+use mathlib.Core.Path.{◌≡◌, sym, ap, ap₂, ◌∙◌}
 use mathlib.Core.List.{List, [], ◌∷◌, ◌++◌, map, append-nil}
-use Prim.Native.Nat.{ℕ, suc, ◌+◌, ◌≤◌, ◌<◌}
+use Prim.Native.Nat.{ℕ, suc, ◌+◌, ◌-◌, ◌≤◌, ◌<◌}
 use native.Mathlib.Numerals.{add-one}
 use native.Mathlib.Omega.{arith}
 use lib.ListN.{length, drop, drop_of_length-le}
@@ -31,27 +31,28 @@ module _ (t n i w : ℕ) (en : n ≡ size t) (e : w ≡ weight (size t) i) where
       → Written before at (weight_line (size t) i) after end
   line-written p = written_as as_written p
 
--- the lines of the first k of the fifteen n are written
+-- the lines of the n below 2t + 1 are written
 abbrev pub Printed : List ℕ → List ℕ → ℕ → ℕ → Type 0
-Printed before output end k = Pieces 15 (λ k. member_lines (size (suc k))) before 0 output end k
+Printed before output end t = Pieces 15 (λ k. member_lines (size (suc k))) before 0 output end (t - 1)
 
 -- the lines of the next n, as the code counts it
-next_lines : (k : ℕ) → member_lines (size (k + 1)) ≡ member_lines (size (suc k))
-next_lines k = ap (λ (t : ℕ). member_lines (size t)) (add-one k)
+next_lines : (t : ℕ) → 1 ≤ t → member_lines (size (suc (t - 1))) ≡ member_lines (size t)
+next_lines t low = ap (λ (k : ℕ). member_lines (size k)) (omega arith)
 
 -- the whole table has as many bytes as the buffer
-module _ (before output : List ℕ) (end k : ℕ) (long : length before ≡ 2858) (b : Printed before output end k) where
-  pub printed_room : k < 15 → end + length (member_lines (size (k + 1))) ≤ length output
+module _ (before output : List ℕ) (end t : ℕ) (low : 1 ≤ t) (b : Printed before output end t) where
+  pub printed_room : length before ≡ 2858 → t ≤ 15 → end + length (member_lines (size t)) ≤ length output
   unfolding table
-  printed_room h = rw next_lines (pieces_room b h (omega (arith, long, examples.long)))
+  printed_room long h = rw (← next_lines t low) (pieces_room b (omega arith) (omega (arith, long, examples.long)))
 
-  pub printed_last : 15 ≤ k → output ≡ table
+  pub printed_next : {after : List ℕ} {next : ℕ} → t ≤ 15 → Written output end (member_lines (size t)) after next → Printed before after next (t + 1)
+  printed_next {after} {next} h w =
+      let e : t - 1 + 1 ≡ t + 1 - 1 = omega arith in
+      rw e at (pieces_next b (omega arith) (written_as (sym (next_lines t low)) w))
+
+  pub printed_last : length before ≡ 2858 → 15 < t → output ≡ table
   unfolding table
-  printed_last h =
-      let w : Written before 0 table output end = pieces_last b h in
+  printed_last long h =
+      let w : Written before 0 table output end = pieces_last b (omega arith) in
       let none_left : drop end before ≡ [] = drop_of_length-le before {i = end} (omega (arith, long, w.next, examples.long)) in
       written_front w ∙ ap (λ (rest : List ℕ). table ++ rest) none_left ∙ append-nil table
-
-pub printed_next : {before output : List ℕ} {end k : ℕ} {after : List ℕ} {next : ℕ} → Printed before output end k → k < 15
-    → Written output end (member_lines (size (k + 1))) after next → Printed before after next (k + 1)
-printed_next {k = k} b h w = pieces_next b h (written_as (next_lines k) w)

@@ -9,48 +9,42 @@ ghost use Rattle.weights.specs.WeightTable.{weight_line, member_lines, table};
 
 use std::io;
 use std::io::Write;
+use text::Output;
 
 // The line of member i of n = 2t + 1, counted from 0.
-fn put_weight_line(t: usize, i: usize, output: &mut [u8], at: usize) -> usize
-    requires { (1 ≤ t) × (t ≤ 15) × (i < size t) × (at + length (weight_line (size t) i) ≤ length output.old) }
-    ensures { Written output.old at (weight_line (size t) i) output.new result }
+fn put_weight_line(t: usize, i: usize, output: &mut Output)
+    requires { (1 ≤ t) × (t ≤ 15) × (i < size t) × (output.old.end + length (weight_line (size t) i) ≤ length output.old.bytes.now) }
+    ensures same_reference { output.new.bytes.ghost_name ≡ output.old.bytes.ghost_name }
+    ensures written { Written output.old.bytes.now output.old.end (weight_line (size t) i) output.new.bytes.now output.new.end }
 {
     let n = members::size(t);
     let numbers = [(i + 1) as u16, parity::weight(t, i)];
-    text::put_numbers(n as u32, &numbers, output, at)
+    output.put_numbers(n as u32, &numbers);
 }
 
 // The lines of n = 2t + 1 members.
-fn put_member_lines(t: usize, output: &mut [u8], at: usize) -> usize
-    requires { (1 ≤ t) × (t ≤ 15) × (at + length (member_lines (size t)) ≤ length output.old) }
-    ensures { Written output.old at (member_lines (size t)) output.new result }
+fn put_member_lines(t: usize, output: &mut Output)
+    requires { (1 ≤ t) × (t ≤ 15) × (output.old.end + length (member_lines (size t)) ≤ length output.old.bytes.now) }
+    ensures same_reference { output.new.bytes.ghost_name ≡ output.old.bytes.ghost_name }
+    ensures written { Written output.old.bytes.now output.old.end (member_lines (size t)) output.new.bytes.now output.new.end }
 {
-    let n = members::size(t);
-    let mut end = at;
-    let mut i = 0;
-    while i < n {
-        end = put_weight_line(t, i, output, end);
-        i += 1;
+    for i in 0..members::size(t) {
+        put_weight_line(t, i, output);
     }
-    end
 }
 
 // The whole table.
-fn fill_table(output: &mut [u8])
-    requires { length output.old ≡ 2858 }
-    ensures { output.new ≡ table }
+fn fill_table(bytes: &mut [u8; 2858])
+    ensures { bytes.new ≡ table }
 {
-    let mut end = 0;
-    let mut k = 0;
-    while k < 15 {
-        end = put_member_lines(k + 1, output, end);
-        k += 1;
+    let mut output = Output::new(bytes);
+    for t in 1..=15 {
+        put_member_lines(t, &mut output);
     }
 }
 
 // Prints the table.
-fn print<W: Write>(writer: &mut W, output: &mut [u8]) -> io::Result<()>
-    requires { length output.old ≡ 2858 }
+fn print<W: Write>(writer: &mut W, output: &mut [u8; 2858]) -> io::Result<()>
     ensures { OnOk result (Appends (W.contents writer.old) (W.contents writer.new) table) }
 {
     fill_table(output);
