@@ -23,43 +23,28 @@ dot_more (suc i) (x ∷ a) (y ∷ b) h k = step (x * y) (dot (take i a) (take i 
     step q n p e = omega arith
 
 -- places past the end of the first list do not count
-pub dot_short : (a b : List ℕ) → dot a (take (length a) b) ≡ dot a b
+pub dot_short : (a b : List ℕ) (i : ℕ) → length a ≤ i → dot a (take i b) ≡ dot a b
 unfolding dot
-dot_short [] b = refl
-dot_short (x ∷ a) [] = refl
-dot_short (x ∷ a) (y ∷ b) = ap (λ (n : ℕ). x * y + n) (dot_short a b)
+dot_short [] b i h = refl
+dot_short (x ∷ a) [] zero h = refl
+dot_short (x ∷ a) [] (suc i) h = refl
+dot_short (x ∷ a) (y ∷ b) zero h = absurd (not-suc-le-zero h)
+dot_short (x ∷ a) (y ∷ b) (suc i) h = ap (λ (n : ℕ). x * y + n) (dot_short a b i (le_of_suc-le-suc h))
 
--- the products of the first i places, their halves summed apart
-pub record Halved (a b : List ℕ) (low high i : ℕ) : Type 0 where
-  pub inside : i ≤ length a
-  pub so_far : low + 65536 * high ≡ dot (take i a) (take i b)
-  pub low_fits : low ≤ 65535 * i
-  pub high_fits : high ≤ 65535 * i
-
-pub halved_first : (a b : List ℕ) → Halved a b 0 0 0
+-- no place
+pub dot_none : dot [] [] ≡ 0
 unfolding dot
-halved_first a b = record { inside = zero-le; so_far = refl; low_fits = zero-le; high_fits = zero-le }
+dot_none = refl
 
-pub halved_next : (a b : List ℕ) (low high i : ℕ) → i < length a → length a ≡ length b → get_or a i 0 * get_or b i 0 ≤ 4294836225 → Halved a b low high i
-    → Halved a b (low + get_or a i 0 * get_or b i 0 % 65536) (high + get_or a i 0 * get_or b i 0 / 65536) (i + 1)
-halved_next a b low high i h e small r =
-    let p : ℕ = get_or a i 0 * get_or b i 0 in
-    record {
-      inside = omega arith;
-      so_far =
-          joined p low high r.so_far
-          ∙ sym (dot_more i a b h (omega arith))
-          ∙ ap (λ (n : ℕ). dot (take n a) (take n b)) (sym (add-one i));
-      low_fits = omega (arith, r.low_fits);
-      high_fits = omega (arith, r.high_fits);
-    }
-  where
-    joined : (p l h : ℕ) {n : ℕ} → l + 65536 * h ≡ n → l + p % 65536 + 65536 * (h + p / 65536) ≡ n + p
-    joined p l h e = omega arith
+-- one place more, as a loop has it
+pub dot_next : (a b : List ℕ) (i n x y : ℕ) → n ≡ i + 1 → i < length a → i < length b → x ≡ get_or a i 0 → y ≡ get_or b i 0
+    → dot (take n a) (take n b) ≡ dot (take i a) (take i b) + x * y
+dot_next a b i n x y e h k ex ey =
+    ap (λ (m : ℕ). dot (take m a) (take m b)) (e ∙ add-one i) ∙ dot_more i a b h k ∙ ap₂ (λ (u v : ℕ). dot (take i a) (take i b) + u * v) (sym ex) (sym ey)
 
-pub halved_last : (a b : List ℕ) (low high i r : ℕ) → length a ≤ i → length a ≡ length b → Halved a b low high i → r ≡ (low + 65536 * high) % prime → r ≡ dot a b % prime
-halved_last a b low high i r h e H er =
-    let q : i ≡ length a = omega (arith, H.inside) in
-    er
-    ∙ ap (λ (n : ℕ). n % prime) H.so_far
-    ∙ ap₂ (λ (l m : List ℕ). dot l m % prime) (take_all i a (le_of_eq (sym q))) (take_all i b (le_of_eq (sym (q ∙ e))))
+-- all places
+pub dot_whole : (a b : List ℕ) (i : ℕ) → length a ≤ i → dot (take i a) (take i b) ≡ dot a b
+dot_whole a b i h = ap (λ (l : List ℕ). dot l (take i b)) (take_all i a h) ∙ dot_short a b i h
+
+-- for a loop that adds up products
+pub ruleset adding = (dot_none, dot_next, dot_whole)

@@ -5,4 +5,5 @@ pub mod Examples
 pub mod Fermat
 pub mod Fits
 pub mod Operations
+pub mod Squaring
 pub mod Table

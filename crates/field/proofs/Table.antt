@@ -34,3 +34,6 @@ below a b r s h l er es =
   where
     minus : (a b : ℕ) → a < b → 65520 * (b - a) ≈ a + 65520 * b
     minus a b h = omega arith
+
+-- for the code: differences of either sign
+pub ruleset differences = (above, below)

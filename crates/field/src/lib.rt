@@ -13,18 +13,21 @@ const SMALL_INVERSES: [u16; 30] = [
     63181, 58743, 63337,
 ];
 
+#[tactic(auto, unfolding(crate::specs::Field::sum))]
 pub fn add(a: u16, b: u16) -> u16
     ensures { result ≡ sum a b }
 {
     ((a as u32 + b as u32) % 65521) as u16
 }
 
+#[tactic(auto, unfolding(crate::specs::Field::difference))]
 pub fn subtract(a: u16, b: u16) -> u16
     ensures { result ≡ difference a b }
 {
     ((a as u32 + (65521 - b as u32 % 65521)) % 65521) as u16
 }
 
+#[tactic(auto, unfolding(crate::specs::Field::product))]
 pub fn multiply(a: u16, b: u16) -> u16
     ensures { result ≡ product a b }
 {
@@ -39,40 +42,32 @@ pub fn whole_product(a: u16, b: u16) -> u64
 }
 
 // c + a · b, with one reduction
+#[tactic(auto, using(crate::proofs::Operations::once))]
 pub fn add_product(c: u16, a: u16, b: u16) -> u16
     ensures { result ≡ sum c (product a b) }
 {
     ((c as u32 + a as u32 * b as u32) % 65521) as u16
 }
 
-// c plus the two products a · b, with one reduction
-pub fn add_two_products(c: u16, a0: u16, b0: u16, a1: u16, b1: u16) -> u16
-    ensures { result ≡ (c + a0 * b0 + a1 * b1) % prime }
+// c plus the products of two lists, place by place, with one reduction
+#[tactic(auto, using(crate::proofs::Dot::adding))]
+pub fn add_products<const N: usize>(c: u16, a: &[u16; N], b: &[u16; N]) -> u16
+    requires { N ≤ 64 }
+    ensures { result ≡ (c + dot a.now b.now) % prime }
 {
-    let total = c as u64 + a0 as u64 * b0 as u64 + a1 as u64 * b1 as u64;
+    let mut total = c as u64;
+    for i in 0..N {
+        total += a[i] as u64 * b[i] as u64;
+    }
     (total % 65521) as u16
 }
 
-// c plus the four products a · b, with one reduction
-pub fn add_four_products(
-    c: u16,
-    a0: u16,
-    b0: u16,
-    a1: u16,
-    b1: u16,
-    a2: u16,
-    b2: u16,
-    a3: u16,
-    b3: u16,
-) -> u16
-    ensures { result ≡ (c + a0 * b0 + a1 * b1 + a2 * b2 + a3 * b3) % prime }
+// c plus the two products a · b, with one reduction
+#[tactic(auto, unfolding(crate::specs::Internal::Dot::dot))]
+pub fn add_two_products(c: u16, a0: u16, b0: u16, a1: u16, b1: u16) -> u16
+    ensures { result ≡ (c + a0 * b0 + a1 * b1) % prime }
 {
-    ((c as u64
-        + a0 as u64 * b0 as u64
-        + a1 as u64 * b1 as u64
-        + a2 as u64 * b2 as u64
-        + a3 as u64 * b3 as u64)
-        % 65521) as u16
+    add_products(c, &[a0, a1], &[b0, b1])
 }
 
 // low + 2^16 · high modulo p, since 2^16 is 15 modulo p. Long sums of products are kept as sums of their low and of their high 16 bits: both fit 32 bits,
@@ -85,23 +80,23 @@ pub fn join_halves(low: u32, high: u32) -> u16
 }
 
 // The sum of the products of two lists, place by place, with one reduction.
+#[tactic(auto, using(crate::proofs::Dot::adding))]
 pub fn inner_product(a: &[u16], b: &[u16]) -> u16
     requires { (length a.now ≡ length b.now) × (length a.now ≤ 64) }
     ensures { result ≡ dot a.now b.now % prime }
 {
     let mut low: u32 = 0;
     let mut high: u32 = 0;
-    let mut i: usize = 0;
-    while i < a.len() {
-        let product = a[i] as u32 * b[i] as u32;
-        low = low + product % 65536;
-        high = high + product / 65536;
-        i = i + 1;
+    for (x, y) in a.iter().zip(b) {
+        let product = *x as u32 * *y as u32;
+        low += product % 65536;
+        high += product / 65536;
     }
     join_halves(low, high)
 }
 
 // a to the power of the lowest binary digit of k
+#[tactic(auto, using(crate::proofs::Operations::digit_powers))]
 fn digit_power(a: u16, k: u16) -> u16
     ensures { result ≡ a ^ (k % 2) }
 {
@@ -112,18 +107,17 @@ fn digit_power(a: u16, k: u16) -> u16
 }
 
 // The power p − 2, by squaring.
+#[tactic(auto, using(crate::proofs::Squaring::turns))]
 pub fn inverse(a: u16) -> u16
     ensures { result ≡ inverse_of a }
 {
     let mut result: u16 = 1;
     let mut square: u16 = a;
     let mut k: u16 = 65519;
-    let mut left: u16 = 16;
-    while 0 < left {
+    for _turn in 0u16..16 {
         result = multiply(result, digit_power(square, k));
         square = multiply(square, square);
-        k = k / 2;
-        left = left - 1;
+        k /= 2;
     }
     result
 }
@@ -137,6 +131,7 @@ fn small_inverse(k: usize) -> u16
 }
 
 // The inverse of a − b: from the table where a and b are at most 30 apart, and else worked out.
+#[tactic(auto, using(crate::proofs::Table::differences))]
 pub fn inverse_of_difference(a: u16, b: u16) -> u16
     ensures { result ≡ inverse_of (difference a b) }
 {
@@ -160,12 +155,5 @@ pub fn is_field_word(word: u16) -> bool
 pub fn are_field_words(words: &[u16]) -> bool
     ensures { result ≡ each is_field_word words.now }
 {
-    let mut i = 0;
-    while i < words.len() {
-        if !is_field_word(words[i]) {
-            return false;
-        }
-        i = i + 1;
-    }
-    true
+    words.iter().all(|word| is_field_word(*word))
 }

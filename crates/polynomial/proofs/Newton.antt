@@ -123,3 +123,12 @@ interpolated_no xs ys h = rw (ne_eqb (length xs) (length ys) h)
 pub interpolated_yes : (xs ys : List ℕ) → length xs ≡ length ys → interpolated xs ys ≡ interpolate xs ys
 unfolding interpolated
 interpolated_yes xs ys h = rw (eq-eqb (length xs) (length ys) h)
+
+-- as the code makes it
+pub interpolated_made : (xs ys differences coefficients : List ℕ) → length xs ≡ length ys → differences ≡ divided xs ys → coefficients ≡ expanded xs differences
+    → coefficients ≡ interpolated xs ys
+interpolated_made xs ys differences coefficients e d c = c ∙ ap (expanded xs) d ∙ sym (interpolated_yes xs ys e ∙ interpolate_is xs ys)
+
+pub ruleset dividing = (divided_next, divided_last)
+pub ruleset expanding = (expanded-first, expanded_next, expanded_last)
+pub ruleset interpolating = (interpolated_no, interpolated_made)

@@ -5,19 +5,16 @@ ghost use Rattle.std.specs.Prelude.{◌≡◌, suc, ◌+◌, ◌*◌, ◌≤◌,
 ghost use Rattle.field.specs.Internal.Dot.{dot};
 ghost use Rattle.polynomial.specs.Polynomial.{value, interpolated};
 ghost use Rattle.polynomial.specs.Internal.Newton.{slopes_from, divided, linear_from, expanded};
-ghost use Rattle.polynomial.specs.Internal.Powers.{Powers, Before, ByPowers};
+ghost use Rattle.polynomial.specs.Internal.Powers.{Powers, sixteen, ByPowers};
 
 // The polynomial's value at x, by Horner's rule.
 fn horner(coefficients: &[u16], x: u16) -> u16
     ensures { result ≡ value coefficients.now x }
 {
-    let mut result: u16 = 0;
-    let mut i = coefficients.len();
-    while 0 < i {
-        i = i - 1;
-        result = field::add_product(coefficients[i], x, result);
-    }
-    result
+    let from_last = coefficients.iter().rev();
+    from_last.fold(0, |so_far, coefficient| {
+        field::add_product(*coefficient, x, so_far)
+    })
 }
 
 // The polynomial's value at x, four coefficients at a time.
@@ -27,27 +24,16 @@ fn by_four(coefficients: &[u16], x: u16) -> u16
     let square = field::multiply(x, x);
     let cube = field::multiply(square, x);
     let fourth = field::multiply(square, square);
-    let mut k = coefficients.len() / 4;
-    let mut result = horner(&coefficients[4 * k..], x);
-    while 0 < k {
-        k = k - 1;
-        let i = 4 * k;
-        result = field::add_four_products(
-            coefficients[i],
-            x,
-            coefficients[i + 1],
-            square,
-            coefficients[i + 2],
-            cube,
-            coefficients[i + 3],
-            fourth,
-            result,
-        );
-    }
-    result
+    let powers = [x, square, cube, fourth];
+    let (blocks, rest) = coefficients.as_chunks::<4>();
+    let from_last = blocks.iter().rev();
+    from_last.fold(horner(rest, x), |so_far, block| {
+        field::add_products(block[0], &[block[1], block[2], block[3], so_far], &powers)
+    })
 }
 
 // 1, x, x², .. modulo p, as many as there is room for.
+#[tactic(auto, using(crate::proofs::Powers::powers_made))]
 pub fn fill_powers(x: u16, powers: &mut [u16])
     requires { 2 ≤ length powers.old }
     ensures { Powers x powers.new }
@@ -55,54 +41,47 @@ pub fn fill_powers(x: u16, powers: &mut [u16])
     let square = field::multiply(x, x);
     powers[0] = 1;
     powers[1] = x;
-    let mut m = 2;
-    while m < powers.len() {
+    for m in 2..powers.len() {
         powers[m] = field::multiply(powers[m - 2], square);
-        m = m + 1;
     }
 }
 
 // Eight coefficients times the powers 0 to 7, and `top` times the power 8, with no reduction.
-fn add_eight(block: &[u16], powers: &[u16], top: u64) -> u64
-    requires { (length block.now ≡ 8) × (length powers.now ≡ 9) × (top ≤ 38653526025) }
+#[tactic(auto, using(field::proofs::Dot::adding))]
+fn add_eight(block: &[u16], powers: &[u16; 9], top: u64) -> u64
+    requires { (length block.now ≡ 8) × (top ≤ 38653526025) }
     ensures { (result ≡ dot block.now powers.now + top * get_or powers.now 8 0) × (result ≤ 65535 * top + 34358689800) }
 {
     let mut sum = top * powers[8] as u64;
-    let mut m = 0;
-    while m < 8 {
-        sum = sum + field::whole_product(block[m], powers[m]);
-        m = m + 1;
+    for (word, power) in block.iter().zip(powers) {
+        sum += field::whole_product(*word, *power);
     }
     sum
 }
 
 // Sixteen coefficients before others whose value is `rest`, with one reduction.
-fn by_sixteen(block: &[u16], powers: &[u16], rest: u16) -> u16
-    requires { (length block.now ≡ 16) × (length powers.now ≡ 9) }
-    ensures { Before powers.now block.now rest result }
+#[tactic(auto, unfolding(crate::specs::Internal::Powers::sixteen))]
+fn by_sixteen(block: &[u16; 16], powers: &[u16; 9], rest: u16) -> u16
+    ensures { result ≡ sixteen powers.now block.now rest }
 {
     let upper = add_eight(&block[8..], powers, rest as u64);
     (add_eight(&block[..8], powers, upper) % 65521) as u16
 }
 
 // The polynomial's value at x, sixteen coefficients at a time; what is left over goes by four.
-fn evaluate_by(coefficients: &[u16], x: u16, powers: &[u16]) -> u16
-    requires { (length powers.now ≡ 9) × Powers x powers.now }
+fn evaluate_by(coefficients: &[u16], x: u16, powers: &[u16; 9]) -> u16
+    requires { Powers x powers.now }
     ensures { result ≡ value coefficients.now x }
 {
-    let mut k = coefficients.len() / 16;
-    let mut result = by_four(&coefficients[16 * k..], x);
-    while 0 < k {
-        k = k - 1;
-        let i = 16 * k;
-        result = by_sixteen(&coefficients[i..i + 16], powers, result);
-    }
-    result
+    let (blocks, rest) = coefficients.as_chunks::<16>();
+    let from_last = blocks.iter().rev();
+    from_last.fold(by_four(rest, x), |so_far, block| {
+        by_sixteen(block, powers, so_far)
+    })
 }
 
 // The same, with the powers of x made in a buffer.
-fn evaluate_long(coefficients: &[u16], x: u16, powers: &mut [u16]) -> u16
-    requires { length powers.old ≡ 9 }
+fn evaluate_long(coefficients: &[u16], x: u16, powers: &mut [u16; 9]) -> u16
     ensures { result ≡ value coefficients.now x }
 {
     fill_powers(x, powers);
@@ -129,60 +108,57 @@ pub fn evaluate_by_powers(constant: u16, others: &[u16], powers: &[u16]) -> u16
 }
 
 // The slopes from point i to the points after it, in place of their values.
+#[tactic(auto, using(crate::proofs::InPlace::sloping))]
 fn slopes(points: &[u16], values: &mut [u16], i: usize)
     requires { (length values.old ≡ length points.now) × (i < length points.now) }
     ensures { values.new ≡ slopes_from points.now values.old i }
 {
     let x = points[i];
     let y = values[i];
-    let mut j = i + 1;
-    while j < values.len() {
+    for j in i + 1..values.len() {
         let rise = field::subtract(values[j], y);
         values[j] = field::multiply(rise, field::inverse_of_difference(points[j], x));
-        j = j + 1;
     }
 }
 
 // Newton's divided differences, in place of the values.
+#[tactic(auto, using(crate::proofs::Newton::dividing))]
 fn divide(points: &[u16], values: &mut [u16])
     requires { length values.old ≡ length points.now }
     ensures { values.new ≡ divided points.now values.old }
 {
-    let mut i = 0;
-    while i < points.len() {
+    for i in 0..points.len() {
         slopes(points, values, i);
-        i = i + 1;
     }
 }
 
 // c + (X − x) · f, in place of c and f, which stand from place i on.
+#[tactic(auto, using(crate::proofs::InPlace::multiplying))]
 fn linear(x: u16, words: &mut [u16], i: usize)
     requires { i < length words.old }
     ensures { words.new ≡ linear_from x words.old i }
 {
     let minus = field::subtract(0, x);
     let last = words.len() - 1;
-    let mut j = i;
-    while j < last {
+    for j in i..last {
         words[j] = field::add_product(words[j], minus, words[j + 1]);
-        j = j + 1;
     }
     words[last] = field::add(words[last], 0);
 }
 
 // The coefficients, in place of the divided differences.
+#[tactic(auto, using(crate::proofs::Newton::expanding))]
 fn expand(points: &[u16], words: &mut [u16])
     requires { length words.old ≡ length points.now }
     ensures { words.new ≡ expanded points.now words.old }
 {
-    let mut i = points.len();
-    while 0 < i {
-        i = i - 1;
+    for i in (0..points.len()).rev() {
         linear(points[i], words, i);
     }
 }
 
 // The coefficients of the polynomial with these values at the points, in place of the values. They stay if there are not as many as points.
+#[tactic(auto, using(crate::proofs::Newton::interpolating))]
 pub fn interpolate(points: &[u16], values: &mut [u16])
     ensures { values.new ≡ interpolated points.now values.old }
 {
