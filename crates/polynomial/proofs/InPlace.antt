@@ -106,4 +106,5 @@ linear_last x n whole words j w h t ew =
 
 -- for the loops
 pub ruleset sloping = (slopes_first, slopes_next, slopes_last)
+
 pub ruleset multiplying = (linear_first, linear_next, linear_last)
