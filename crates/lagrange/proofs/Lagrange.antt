@@ -1,10 +1,10 @@
 -- Lagrange: for distinct points, polynomials that are 1 at one point each and 0 at the others add up, times values, to the interpolated polynomial.
 -- So the row of their values at z gives its value at z.
 -- Assumes nothing.
-use mathlib.Core.Path.{◌≡◌, refl, sym, ap, ap₂, ◌∙◌, subst}
+use mathlib.Core.Path.{◌≡◌, refl, sym, ap, ◌∙◌, subst}
 use mathlib.Core.Logic.{inl, inr}
-use mathlib.Core.Bool.{cond, true, false}
-use mathlib.Core.List.{List, [], ◌∷◌, ◌++◌}
+use mathlib.Core.Bool.{cond}
+use mathlib.Core.List.{List, [], ◌∷◌}
 use Prim.Native.Nat.{ℕ, zero, suc, ◌+◌, ◌*◌, ◌%◌, ◌≤◌, ◌<◌, zero-le, suc-le-suc}
 use native.Mathlib.Nat.{not-suc-le-zero, le_of_suc-le-suc, le_of_eq, suc-ne-zero, suc_inj}
 use native.Mathlib.Numerals.{add-one}
@@ -20,7 +20,7 @@ use Rattle.lists.proofs.Every.{Every}
 use Rattle.lists.proofs.Tabulate.{length-tab, get_or-tab, tab-get_or}
 use Rattle.field.specs.Field.{prime, difference, product, inverse}
 use Rattle.field.specs.Internal.Dot.{dot}
-use Rattle.field.proofs.Congruence.{◌≈◌, same_refl, same_sym, same_trans, same_eq, eq_same, reduced, times, ◌⊕◌, ◌⊗◌, lc}
+use Rattle.field.proofs.Congruence.{◌≈◌, same_refl, same_sym, same_trans, same_eq, eq_same, reduced, times, ◌⊕◌, ◌⊗◌}
 use Rattle.field.proofs.Fermat.{inverse_law}
 use Rattle.field.proofs.Operations.{mod-word, difference_same, product_same}
 use Rattle.polynomial.specs.Polynomial.{eval, value, linear, interpolate}
@@ -50,7 +50,8 @@ dot-zero (suc n) f (y ∷ ys) h =
     none_of a y s h k = same_trans ((h ⊗ same_refl) ⊕ k) (same_eq (omega arith))
 
 -- 1 at place k and 0 at the others picks place k
-dot_pick : (n : ℕ) (f : ℕ → ℕ) (ys : List ℕ) (k : ℕ) → k < n → length ys ≡ n → f k ≈ 1 → ((m : ℕ) → m < n → (m ≡ k → ⊥) → f m ≈ 0) → dot (tab n f) ys ≈ get_or ys k 0
+dot_pick : (n : ℕ) (f : ℕ → ℕ) (ys : List ℕ) (k : ℕ) → k < n → length ys ≡ n → f k ≈ 1 → ((m : ℕ) → m < n → (m ≡ k → ⊥) → f m ≈ 0)
+    → dot (tab n f) ys ≈ get_or ys k 0
 unfolding tab dot
 dot_pick zero f ys k l e one others_0 = absurd (not-suc-le-zero l)
 dot_pick (suc n) f [] k l e one others_0 = absurd (suc-ne-zero n (sym e))
@@ -206,3 +207,15 @@ module _ (xs : List ℕ) (A : Apart xs) (z : ℕ) (hz : z < prime) where
             ys l z)
             (same_sym (value_same (interpolate xs ys) z))))));
       }
+
+-- the weights at their places
+pub weight_at : (xs ws : List ℕ) (m : ℕ) → m < length xs → ws ≡ weights xs → get_or ws m 0 ≡ weight xs m
+unfolding weights
+weight_at xs ws m h e = ap (λ (l : List ℕ). get_or l m 0) e ∙ get_or-tab (length xs) (weight xs) m 0 h
+
+pub length-weights : (xs : List ℕ) → length (weights xs) ≡ length xs
+unfolding weights
+length-weights xs = length-tab (length xs) (weight xs)
+
+-- for a loop that writes a row
+pub ruleset row_words = (weight_at, length-weights)

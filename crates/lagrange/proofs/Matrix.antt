@@ -1,23 +1,22 @@
 -- The matrix for some members of a set: which are chosen, and the rows that are filled.
 -- Assumes nothing.
 use mathlib.Core.Path.{◌≡◌, refl, sym, ap, ap₂, ◌∙◌, subst}
-use mathlib.Core.Logic.{inl, inr}
-use mathlib.Core.Bool.{Bool, true, false, ◌&&◌, not}
-use mathlib.Core.List.{List, ◌++◌, append_assoc}
-use Prim.Native.Nat.{ℕ, suc, ◌+◌, ◌-◌, ◌*◌, ◌%◌, ◌^◌, ◌≤◌, ◌<◌, zero-le}
+use mathlib.Core.Bool.{Bool, false, ◌&&◌, not}
+use mathlib.Core.List.{List, []}
+use Rattle.std.specs.Prelude.{Option, Some, None, IsSome}
+use Prim.Native.Nat.{ℕ, suc, ◌+◌, ◌%◌, ◌^◌, ◌≤◌, ◌<◌, zero-le}
 use native.Mathlib.Nat.{le_of_suc-le-suc, not-suc-le-zero, suc_inj, lt_of_lt_of_le, lt_of_le_of_lt, lt_of_not-le, le_trans}
 use native.Mathlib.Decide.{dec_le}
 use native.Mathlib.Numerals.{add-one}
 use native.Mathlib.Omega.{arith}
 use lib.Dec.{eqb}
-use lib.ListN.{length, get_or, take, drop, set, length-set}
+use lib.ListN.{length, get_or, take, set, length-set}
 use lib.Pow.{pow_mono}
-use lib.Seq.{sets, sets-eq, get_or-set_same, get_or-set_other}
-use borrow.Rule.Slice.PartMut.{put_mid, Post-is}
+use lib.Seq.{get_or-set_same, get_or-set_other}
 use borrow.Author.Tests.{eq-eqb}
+use borrow.Author.Count.{below_more}
 use Rattle.lists.specs.Tabulate.{tab}
 use Rattle.lists.proofs.Tabulate.{tab_ext}
-use Rattle.lists.proofs.Stores.{sets-length, sets-read, part_kept}
 use Rattle.lists.proofs.Bools.{clash, and_no}
 use Rattle.lists.proofs.Count.{to_ℕ, count_at, count_ext}
 use Rattle.field.specs.Field.{prime}
@@ -25,8 +24,8 @@ use Rattle.field.specs.Internal.Dot.{dot}
 use Rattle.polynomial.specs.Polynomial.{value, interpolate}
 use Rattle.lagrange.specs.Internal.Lagrange.{Reads}
 use Rattle.members.specs.Members.{has, card, striking}
-use Rattle.members.specs.Internal.Lowest.{Lowest}
-use Rattle.members.proofs.Masks.{card_some}
+use Rattle.members.specs.Internal.Lowest.{First, Lowest}
+use Rattle.members.proofs.Masks.{has-zero, card_some}
 use Rattle.members.proofs.Words.{has-striking, striking-le}
 use Rattle.lagrange.specs.Internal.Matrix.{Chosen, Rows, products}
 
@@ -55,7 +54,17 @@ choosing_first h e =
       apart = λ j k l q. absurd (not-suc-le-zero q);
     }
 
-module _ {n : ℕ} {points : List ℕ} {rest m i : ℕ} (C : Choosing n points rest m) (more : m < length points) (few : n ≤ 31) (low : Lowest rest i) where
+-- there is a member left for the next point
+pub member_left : {n : ℕ} {points : List ℕ} {rest m : ℕ} → Choosing n points rest m → m < length points → (lowest : Option ℕ) → Lowest rest lowest → IsSome lowest
+member_left C more (Some i) low = refl
+member_left {n} {rest = rest} C more None empty =
+    let r = card_some n rest (omega (arith, C.enough)) in
+    absurd (clash r.2 (ap (λ (s : ℕ). has s r.0) empty ∙ has-zero r.0))
+
+pub first_left : {rest i : ℕ} {lowest : Option ℕ} → lowest ≡ Some i → Lowest rest lowest → First rest i
+first_left {rest} e low = subst (Lowest rest) e low
+
+module _ {n : ℕ} {points : List ℕ} {rest m i : ℕ} (C : Choosing n points rest m) (more : m < length points) (few : n ≤ 31) (low : First rest i) where
   -- there is a member left
   pub left_inside : i < n
   left_inside =
@@ -66,9 +75,6 @@ module _ {n : ℕ} {points : List ℕ} {rest m i : ℕ} (C : Choosing n points r
         | no q ↦ absurd (clash r.2 (low.none_before r.0 (lt_of_not-le q)))
       ]
 
-  left-has : has rest i ≡ true
-  left-has = low.member (omega (arith, left_inside))
-
   word : rest < 2 ^ 32
   word = lt_of_lt_of_le C.below (pow_mono {j = 32} (omega arith))
 
@@ -76,7 +82,7 @@ module _ {n : ℕ} {points : List ℕ} {rest m i : ℕ} (C : Choosing n points r
   unfolding card
   one_less =
       count_at n (has rest) i left_inside
-      ∙ ap₂ (λ (b : Bool) (c : ℕ). to_ℕ b + c) left-has
+      ∙ ap₂ (λ (b : Bool) (c : ℕ). to_ℕ b + c) low.member
       (count_ext n (λ j. has rest j && not (eqb j i)) (has (striking rest i)) (λ j l. sym (has-striking rest i j (omega arith))))
       ∙ omega arith
 
@@ -112,7 +118,7 @@ module _ {n : ℕ} {points : List ℕ} {rest m i : ℕ} (C : Choosing n points r
                   let g : Gone n rest (get_or points j 0) = C.members j (omega arith) in
                   let same : i ≡ g.i =
                   suc_inj (sym (add-one i) ∙ sym ev ∙ sym here ∙ ap (λ (a : ℕ). get_or (set points m v) a 0) (sym at) ∙ sym e ∙ before j (omega arith) ∙ g.is) in
-                  clash left-has (ap (has rest) same ∙ g.gone)
+                  clash low.member (ap (has rest) same ∙ g.gone)
             ];
       })
     where
@@ -140,45 +146,17 @@ choosing_last {n} {points} {rest} {m} h few C =
     at : (j : ℕ) → j < length points → Gone n rest (get_or points j 0)
     at j l = C.members j (le_trans l h)
 
--- a part that was lent comes back with ys in its place
-put_sets : (at n : ℕ) (l ys : List ℕ) → length ys ≡ n → at + n ≤ length l → put_mid at (at + n - at) l ys ≡ sets l at ys
-put_sets at n l ys e h =
-    ap (λ (r : List ℕ). take at l ++ (ys ++ r)) (Post-is at (at + n) l (omega arith))
-    ∙ sym (append_assoc (take at l) ys (drop (at + n) l))
-    ∙ ap (λ (k : ℕ). take at l ++ ys ++ drop (at + k) l) (sym e)
-    ∙ sym (sets-eq ys l at (omega arith))
-
--- the rows below x are filled
-pub record Filling (n : ℕ) (points matrix : List ℕ) (x : ℕ) : Type 0 where
-  inside : x ≤ n + 1
-  pub long : length matrix ≡ 512
-  rows : (z : ℕ) → z < x → Reads points z (take (length points) (drop (16 * z) matrix))
-
-pub filling_first : {n : ℕ} {points matrix : List ℕ} → length matrix ≡ 512 → Filling n points matrix 0
-filling_first e = record { inside = zero-le; long = e; rows = λ z l. absurd (not-suc-le-zero l) }
-
-pub filling_next : {n : ℕ} {points matrix : List ℕ} {x : ℕ} {row : List ℕ} → n ≤ 31 → length points ≤ 16 → x ≤ n → Filling n points matrix x → Reads points x row
-    → Filling n points (put_mid (16 * x) (16 * x + length points - 16 * x) matrix row) (x + 1)
-filling_next {n} {points} {matrix} {x} {row} small few h F R =
-    subst (λ (l : List ℕ). Filling n points l (x + 1)) (sym (put_sets (16 * x) (length points) matrix row R.long (omega (arith, F.long))))
-    (record {
-      inside = omega arith;
-      long = sets-length matrix row (sets matrix (16 * x) row) (16 * x) refl ∙ F.long;
-      rows = λ z l.
-          elim (dec_le (suc z) x) [
-            | yes q ↦ subst (Reads points z) (sym (part_kept matrix row (16 * z) (length points) (16 * x) (omega arith))) (F.rows z q)
-            | no q ↦
-                let e : x ≡ z = omega arith in
-                subst (λ (y : ℕ). Reads points y (take (length points) (drop (16 * y) (sets matrix (16 * x) row)))) e
-                (subst (Reads points x) (sym (sets-read matrix row (16 * x) (length points) R.long (omega (arith, F.long)))) R)
-          ];
-    })
-
-pub filling_last : {n : ℕ} {points matrix : List ℕ} {x : ℕ} → n < x → Filling n points matrix x → Rows n points matrix
-filling_last h F = record { long = F.long; rows = λ z l. F.rows z (lt_of_le_of_lt l h) }
+-- one more row
+pub rows_next : (points : List ℕ) (matrix : List (List ℕ)) (x : ℕ) (row : List ℕ) → x < length matrix
+    → ((z : ℕ) → z < x → Reads points z (take (length points) (get_or matrix z []))) → Reads points x (take (length points) row)
+    → (z : ℕ) → z < x + 1 → Reads points z (take (length points) (get_or (set matrix x row) z []))
+rows_next points matrix x row inside before here =
+    below_more (λ z. Reads points z (take (length points) (get_or (set matrix x row) z []))) x
+    (λ z l. subst (λ (r : List ℕ). Reads points z (take (length points) r)) (sym (get_or-set_other matrix x z row [] (λ e. omega arith))) (before z l))
+    (subst (λ (r : List ℕ). Reads points x (take (length points) r)) (sym (get_or-set_same matrix x row [] inside)) here)
 
 -- the sums of products with the rows are values of the polynomial through the words
-pub read_off : (n len : ℕ) (points matrix words expected : List ℕ) → Rows n points matrix → length words ≡ length points → len ≡ suc n
+pub read_off : (n len : ℕ) (points : List ℕ) (matrix : List (List ℕ)) (words expected : List ℕ) → Rows n points matrix → length words ≡ length points → len ≡ suc n
     → expected ≡ tab len (products matrix words) → expected ≡ tab (suc n) (value (interpolate points words))
 unfolding products
 read_off n len points matrix words expected R e el ee =
@@ -186,4 +164,4 @@ read_off n len points matrix words expected R e el ee =
     ∙ ap (λ (m : ℕ). tab m (products matrix words)) el
     ∙ tab_ext (suc n) (products matrix words) (value (interpolate points words))
     (λ x l.
-    ap (λ (m : ℕ). dot (take m (drop (16 * x) matrix)) words % prime) e ∙ (R.rows x (le_of_suc-le-suc l)).reads words e)
+    ap (λ (m : ℕ). dot (take m (get_or matrix x [])) words % prime) e ∙ (R.rows x (le_of_suc-le-suc l)).reads words e)

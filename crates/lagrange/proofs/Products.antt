@@ -2,12 +2,11 @@
 -- Assumes nothing.
 use mathlib.Core.Path.{◌≡◌, refl, sym, ap, ◌∙◌}
 use mathlib.Core.List.{List, [], ◌∷◌, ◌++◌}
-use Prim.Native.Nat.{ℕ, zero, suc, ◌+◌, ◌*◌, ◌%◌, ◌≤◌, ◌<◌, zero-le}
+use Prim.Native.Nat.{ℕ, zero, suc, ◌+◌, ◌*◌, ◌%◌, ◌<◌}
 use native.Mathlib.Nat.{not-suc-le-zero, le_of_suc-le-suc, mul-one, one-mul, mul_assoc}
-use native.Mathlib.Numerals.{add-one}
 use native.Mathlib.Omega.{arith}
-use lib.ListN.{length, get_or, take, drop, drop_of_length-le}
-use lib.Seq.{drop-cons}
+use lib.ListN.{length, get_or, take, drop}
+use Rattle.std.proofs.lemmas.List.{take_more}
 use Rattle.lists.proofs.Every.{Every, none, more, every_at}
 use Rattle.field.specs.Field.{prime, difference, product, inverse}
 use Rattle.field.proofs.Congruence.{◌≈◌, same_refl, same_sym, same_trans, same_eq, eq_same, reduced, mult, times, ◌⊗◌, lc}
@@ -38,36 +37,17 @@ over_out f (x ∷ xs) (suc m) h = step (f x) (f (get_or xs m 0)) (over f (others
         swap : (a b c : ℕ) → a * (b * c) ≡ b * (a * c)
         swap a b c = omega arith
 
--- a loop that has multiplied the first k
-pub record Multiplied (f : ℕ → ℕ) (xs : List ℕ) (result k : ℕ) : Type 0 where
-  pub inside : k ≤ length xs
-  pub word : result < prime
-  pub so_far : result * over f (drop k xs) ≈ over f xs
-
-pub multiplied_first : (f : ℕ → ℕ) (xs : List ℕ) → Multiplied f xs 1 0
-multiplied_first f xs = record { inside = zero-le; word = omega arith; so_far = same_eq (one-mul (over f xs)) }
-
-pub multiplied_next : (f : ℕ → ℕ) (xs : List ℕ) (result k v r : ℕ) → k < length xs → Multiplied f xs result k → v ≡ f (get_or xs k 0) → r ≡ product result v
-    → Multiplied f xs r (k + 1)
+-- one more factor
+pub over_next : (f : ℕ → ℕ) (xs : List ℕ) (i result v : ℕ) → i < length xs → result ≡ over f (take i xs) % prime → v ≡ f (get_or xs i 0)
+    → product result v ≡ over f (take (i + 1) xs) % prime
 unfolding over
-multiplied_next f xs result k v r h M ev er =
-    let rest : List ℕ = drop (k + 1) xs in
-    let split : over f (drop k xs) ≡ v * over f rest =
-    ap (over f) (drop-cons xs k 0 h) ∙ ap (λ (a : ℕ). a * over f (drop (suc k) xs)) (sym ev) ∙ ap (λ (n : ℕ). v * over f (drop n xs)) (sym (add-one k)) in
-    record {
-      inside = omega arith;
-      word = omega (arith, er, product-word result v);
-      so_far =
-          same_trans (same_trans (same_eq er) (product_same result v) ⊗ same_refl)
-          (same_trans (same_eq (mul_assoc result v (over f rest) ∙ ap (λ (n : ℕ). result * n) (sym split))) M.so_far);
-    }
-
-pub multiplied_last : (f : ℕ → ℕ) (xs : List ℕ) (result k : ℕ) → length xs ≤ k → Multiplied f xs result k → result ≡ over f xs % prime
-unfolding over
-multiplied_last f xs result k h M =
-    eq_same M.word (mod-word (over f xs))
-    (same_trans (same_eq (sym (ap (λ (l : List ℕ). result * over f l) (drop_of_length-le xs h) ∙ mul-one result)))
-    (same_trans M.so_far (same_sym (reduced (over f xs)))))
+over_next f xs i result v h e ev =
+    let more : over f (take (i + 1) xs) ≡ over f (take i xs) * v =
+    ap (over f) (take_more xs i 0 h) ∙ over-append f (take i xs) (get_or xs i 0 ∷ []) ∙ ap (λ (a : ℕ). over f (take i xs) * a) (mul-one (f (get_or xs i 0)) ∙ sym ev) in
+    eq_same (product-word result v) (mod-word (over f (take (i + 1) xs)))
+    (same_trans (product_same result v)
+    (same_trans (same_trans (same_eq e) (reduced (over f (take i xs))) ⊗ same_refl)
+    (same_sym (same_trans (reduced (over f (take (i + 1) xs))) (same_eq more)))))
 
 -- x − a is 0 only for the same points
 pub no_difference : (x a : ℕ) → difference x a ≈ 0 → a ≈ x
