@@ -25,10 +25,8 @@ pub fn split_once(bytes: &[u8], separator: u8) -> Option<(&[u8], &[u8])>
         (λ p. parts separator bytes.now ≡ p.0.now ∷ parts separator p.1.now) }
     ensures shorter { IfSome result (λ p. (length p.0.now < length bytes.now) × (length p.1.now < length bytes.now)) }
 {
-    match place(bytes, separator) {
-        Some(i) => Some((&bytes[..i], &bytes[i + 1..])),
-        None => None,
-    }
+    let i = place(bytes, separator)?;
+    Some((&bytes[..i], &bytes[i + 1..]))
 }
 
 // The first field of a line, and what follows its tab, if it has one.
@@ -72,6 +70,7 @@ fn numeral(field: &[u8]) -> Option<u16>
 }
 
 // The numbers of a line that is a letter and then exactly as many numerals as `out` has words. For any other line `out` is left with words of no meaning.
+// It says by a bool whether the line is one: the numbers themselves go into the lent words, since no memory is allocated.
 pub fn numbers(line: &[u8], letter: u8, out: &mut [u16]) -> bool
     ensures { line_of letter (length out.old) line.now ≡ cond result (some out.new) none }
 {
@@ -152,12 +151,14 @@ impl<'a> Output<'a> {
         Output { bytes, end: 0 }
     }
 
+    // The place of the next byte.
     pub fn end(&self) -> usize
         ensures { result ≡ self.now.end }
     {
         self.end
     }
 
+    // One byte.
     fn put_byte(&mut self, b: u8)
         requires { self.old.end < length self.old.bytes.now }
         ensures same_reference { self.new.bytes.ghost_name ≡ self.old.bytes.ghost_name }
@@ -167,6 +168,7 @@ impl<'a> Output<'a> {
         self.end += 1;
     }
 
+    // Bytes, copied.
     fn put_bytes(&mut self, bytes: &[u8])
         requires { self.old.end + length bytes.now ≤ length self.old.bytes.now }
         ensures same_reference { self.new.bytes.ghost_name ≡ self.old.bytes.ghost_name }
@@ -230,7 +232,7 @@ impl<'a> Output<'a> {
         self.put_byte(10);
     }
 
-    // A line: a word and two numbers.
+    // A line: a word and two numbers. These may be masks, too large for `put_list`, and numbers of both sizes under a trait would be no plainer.
     pub fn put_line(&mut self, word: &[u8], a: u32, b: u32)
         requires { self.old.end + length word.now + length (field a) + length (field b) + 1 ≤ length self.old.bytes.now }
         ensures same_reference { self.new.bytes.ghost_name ≡ self.old.bytes.ghost_name }
