@@ -1,12 +1,12 @@
 -- What is proved of this crate.
-pub mod Answers
 pub mod Apart
 pub mod Candidate
+pub mod Enumerated
 pub mod Examples
-pub mod Hints
 pub mod Points
 pub mod Refusals
 pub mod Search
+pub mod Tried
 pub mod Turns
 pub mod Unique
 pub mod Words

@@ -1,4 +1,5 @@
 -- What only contracts of private functions cite: how the code works, not what it answers.
 pub mod Candidate
-pub mod Hint
+pub mod Outcome
 pub mod Roster
+pub mod Words

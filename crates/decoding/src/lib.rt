@@ -2,107 +2,35 @@
 //
 // First a guess: the polynomial through the first t + 1 members of a hint, if enough members agree with it. Else the crate `locator` gives an E that is 0
 // at every member with a wrong value, if some polynomial meets enough members; that one goes through the first t + 1 members at which E is not 0. Whether
-// enough members meet it is then counted. Member i has the point at place i of the points.
+// enough members meet it is then counted.
 #![tactic(auto)]
 
-ghost use Rattle.std.specs.Prelude.{◌≡◌, cond, ◌&&◌, ◌||◌, not, suc, ◌+◌, ◌≤◌, ◌<◌, ◌^◌, eqb, length, get_or, replicate};
-ghost use Rattle.lists.specs.Checks.{refusal};
+ghost use Rattle.std.specs.Prelude.{◌≡◌, ◌||◌, not, suc, ◌≤◌, ◌<◌, ◌^◌, length, get_or};
 ghost use Rattle.lists.specs.Tabulate.{all};
 ghost use Rattle.field.specs.Field.{is_field_word};
 ghost use Rattle.members.specs.Members.{size, own_points, has, card};
-ghost use Rattle.polynomial.specs.Polynomial.{value};
-ghost use Rattle.locator.specs.Internal.Pairs.{passed};
-ghost use Rattle.decoding.specs.Internal.Candidate.{sound, enough_agree, Gathered};
-ghost use Rattle.decoding.specs.Internal.Hint.{Guessed};
 ghost use Rattle.decoding.specs.Internal.Roster.{Roster};
+ghost use Rattle.decoding.specs.Internal.Outcome.{outcome, Checked};
 ghost use Rattle.decoding.specs.Answer.{answer_of};
-ghost use Rattle.decoding.specs.Decoding.{need, agreeing, find, undecoded, decoded_from, decode};
+ghost use Rattle.decoding.specs.Decoding.{need, find, decoded_from, decode};
 
-// What decoding answers: the coefficients are in the buffer, or the number of the refusal.
+use refusals::Refusal;
+
+// One word: member i has the point and the value at place i, and the members of the set are to be decoded.
 #[derive(Clone, Copy)]
-pub enum Outcome {
-    Found,
-    Refused(u16),
-}
-
-// A refusal fills the buffer with 65535.
-fn refuse(buffer: &mut [u16], number: u16) -> Outcome
-    ensures { answer_of result buffer.new ≡ undecoded (length buffer.old) (refusal number) }
-{
-    lists::fill(buffer, 65535);
-    Outcome::Refused(number)
-}
-
-// 1 if member i is in the set and e is not 0 at its point, and else 0.
-fn sound_one(points: &[u16], set: u32, e: &[u16], i: usize) -> usize
-    requires { i < length points.now }
-    ensures { result ≡ cond (sound points.now set e.now i) 1 0 }
-{
-    if !members::has(set, i) {
-        return 0;
-    }
-    if polynomial::evaluate(e, points[i]) == 0 {
-        return 0;
-    }
-    1
-}
-
-// The points and values of the first t + 1 members of the set at which e is not 0; gives how many were found.
-fn gather(
+struct Word<'a> {
     t: usize,
-    points: &[u16],
-    values: &[u16],
+    points: &'a [u16],
+    values: &'a [u16],
     set: u32,
-    e: &[u16],
-    chosen: &mut [u16],
-    kept: &mut [u16],
-) -> usize
-    requires { (t ≤ 15) × (length points.now ≡ size t) × (length values.now ≡ size t) × (length chosen.old ≡ 16) × (length kept.old ≡ suc t) }
-    ensures { Gathered points.now t values.now set e.now chosen.new kept.new result }
-{
-    let mut m = 0;
-    let mut i = 0;
-    while i < values.len() {
-        if t < m {
-            return m;
-        }
-        chosen[m] = points[i];
-        kept[m] = values[i];
-        m = m + sound_one(points, set, e, i);
-        i = i + 1;
-    }
-    m
-}
-
-// 1 if member i is in the set and its value is that of f, and else 0.
-fn agrees_one(points: &[u16], values: &[u16], set: u32, f: &[u16], i: usize) -> usize
-    requires { (i < length points.now) × (i < length values.now) }
-    ensures { result ≡ cond (has set i && eqb (value f.now (get_or points.now i 0)) (get_or values.now i 0)) 1 0 }
-{
-    if !members::has(set, i) {
-        return 0;
-    }
-    if polynomial::evaluate(f, points[i]) == values[i] {
-        return 1;
-    }
-    0
-}
-
-// How many members of the set agree with f.
-fn agreeing(t: usize, points: &[u16], values: &[u16], set: u32, f: &[u16]) -> usize
-    requires { (length points.now ≡ size t) × (length values.now ≡ size t) }
-    ensures { result ≡ card (size t) (agreeing points.now t 1 (λ i k. get_or values.now i 0) set (λ k. f.now)) }
-{
-    let mut count = 0;
-    let mut i = 0;
-    while i < values.len() {
-        count = count + agrees_one(points, values, set, f, i);
-        i = i + 1;
-    }
-    count
+    ghost small: { t ≤ 15 },
+    ghost roster: { Roster t points.now },
+    ghost as_many: { length values.now ≡ size t },
+    ghost proper: { set < 2 ^ size t },
 }
 
 // How many of s members have to agree.
+#[tactic(auto, unfolding(crate::specs::Decoding::need, crate::specs::Decoding::surplus))]
 pub fn need(t: u16, s: u32) -> usize
     ensures { result ≡ need t s }
 {
@@ -115,211 +43,177 @@ pub fn need(t: u16, s: u32) -> usize
     least + (surplus + 1) / 2
 }
 
-// Enough members of the set agree with f.
-fn enough_agree(t: usize, points: &[u16], values: &[u16], set: u32, f: &[u16]) -> bool
-    requires { (t ≤ 15) × (set < 2 ^ size t) × (length points.now ≡ size t) × (length values.now ≡ size t) }
-    ensures { result ≡ enough_agree points.now t values.now set f.now }
-{
-    let least = need(t as u16, members::card(set));
-    least <= agreeing(t, points, values, set, f)
-}
+impl Word<'_> {
+    ghost use Rattle.decoding.specs.Internal.Candidate.{sound, Gathered, Tried};
+    ghost use Rattle.decoding.specs.Internal.Words.{solution, meets_at, meeting, enough_meet};
 
-// The value of a member of the set is a field word.
-fn field_word(set: u32, i: usize, value: u16) -> bool
-    ensures { result ≡ not (has set i) || is_field_word value }
-{
-    if !members::has(set, i) {
-        return true;
+    // Member i is in the set and e is not 0 at its point.
+    #[tactic(auto, using(std::proofs::lemmas::Bool::Decides::nat_tests), unfolding(crate::specs::Internal::Candidate::sound))]
+    fn sound(&self, set: u32, e: &[u16], i: usize) -> bool
+        requires { i < size self.now.t }
+        ensures { result ≡ sound self.now.points.now set e.now i }
+    {
+        members::has(set, i) && polynomial::evaluate(e, self.points[i]) != 0
     }
-    field::is_field_word(value)
+
+    // The points and values of the first t + 1 members of the set at which e is not 0, if there are so many.
+    fn gather(&self, set: u32, e: &[u16], chosen: &mut [u16; 16], kept: &mut [u16]) -> bool
+        requires { length kept.old ≡ suc self.now.t }
+        ensures { Gathered self.now set e.now chosen.new kept.new result }
+    {
+        let mut found = 0;
+        for (i, value) in self.values.iter().enumerate() {
+            if self.sound(set, e, i) {
+                chosen[found] = self.points[i];
+                kept[found] = *value;
+                found += 1;
+                if self.t < found {
+                    return true;
+                }
+            }
+        }
+        false
+    }
+
+    // Member i is in the set and agrees with f.
+    #[tactic(auto, using(std::proofs::lemmas::Bool::Decides::nat_tests))]
+    fn agrees(&self, f: &[u16], i: usize) -> bool
+        requires { i < size self.now.t }
+        ensures { result ≡ meets_at self.now f.now i }
+    {
+        members::has(self.set, i) && polynomial::evaluate(f, self.points[i]) == self.values[i]
+    }
+
+    // How many members of the set agree with f.
+    fn agreeing(&self, f: &[u16]) -> usize
+        ensures { result ≡ meeting self.now f.now }
+    {
+        let mut count = 0;
+        for i in 0..self.values.len() {
+            if self.agrees(f, i) {
+                count += 1;
+            }
+        }
+        count
+    }
+
+    // Enough members of the set agree with f.
+    fn enough_agree(&self, f: &[u16]) -> bool
+        ensures { result ≡ enough_meet self.now f.now }
+    {
+        let least = need(self.t as u16, members::card(self.set));
+        least <= self.agreeing(f)
+    }
+
+    // The polynomial through the first t + 1 of these members at which e is not 0 is in the buffer, and enough members of the set agree with it.
+    fn through(&self, among: u32, e: &[u16], coefficients: &mut [u16]) -> bool
+        requires { length coefficients.old ≡ suc self.now.t }
+        ensures { Tried self.now among e.now result coefficients.new }
+    {
+        let mut chosen = [0; 16];
+        if !self.gather(among, e, &mut chosen, coefficients) {
+            return false;
+        }
+        polynomial::interpolate(&chosen[..self.t + 1], coefficients);
+        self.enough_agree(coefficients)
+    }
+
+    // The polynomial that enough members of the set agree with, in the buffer; it does not depend on the hint.
+    fn solve(&self, hint: u32, coefficients: &mut [u16]) -> Result<(), Refusal>
+        requires { length coefficients.old ≡ suc self.now.t }
+        ensures { outcome result coefficients.new ≡ decoded_from (suc self.now.t) (solution self.now) }
+    {
+        if self.through(hint, &[1], coefficients) {
+            return Ok(());
+        }
+        let mut e = [0; 32];
+        locator::locate(self.t, self.points, self.values, self.set, &mut e);
+        if self.through(self.set, &e, coefficients) {
+            return Ok(());
+        }
+        Err(Refusal::TooFewAgree)
+    }
 }
 
 // The values of all members of the set are field words.
 fn field_words(values: &[u16], set: u32) -> bool
     ensures { result ≡ all (length values.now) (λ i. not (has set i) || is_field_word (get_or values.now i 0)) }
 {
-    let mut i = 0;
-    while i < values.len() {
-        if !field_word(set, i, values[i]) {
-            return false;
-        }
-        i = i + 1;
-    }
-    true
+    values.iter().enumerate().all(|(i, value)| !members::has(set, i)
+        || field::is_field_word(*value))
 }
 
-// The polynomial through the first t + 1 members of the set at which e is not 0, if enough members agree with it.
-fn judge(
-    t: usize,
-    points: &[u16],
-    values: &[u16],
-    set: u32,
-    e: &[u16],
-    chosen: &mut [u16],
-    coefficients: &mut [u16],
-) -> Outcome
-    requires t_bound { (t ≤ 15) × Roster t points.now × (length values.now ≡ size t) × (set < 2 ^ size t) × (length chosen.old ≡ 16) × (length coefficients.old ≡ suc t) }
-    requires e_value { e.now ≡ (passed points.now t (λ i. get_or values.now i 0) set 31 (size t)).e1 }
-    ensures { answer_of result coefficients.new ≡ decoded_from (suc t) (find points.now t 1 (λ i k. get_or values.now i 0) set) }
+// What decoding looks at before it works anything out, where the buffer has as many words as `room`.
+#[tactic(auto, using(crate::proofs::Refusals::refusals))]
+fn check(t: usize, values: &[u16], set: u32, room: usize) -> Result<(), Refusal>
+    ensures { Checked t values.now set room result }
 {
-    if gather(t, points, values, set, e, chosen, coefficients) <= t {
-        return refuse(coefficients, 16);
+    if !members::threshold(t) {
+        return Err(Refusal::BadThreshold);
     }
-    polynomial::interpolate(&chosen[..t + 1], coefficients);
-    if !enough_agree(t, points, values, set, coefficients) {
-        return refuse(coefficients, 16);
+    let n = members::size(t);
+    if values.len() != n {
+        return Err(Refusal::BadInputLength);
     }
-    Outcome::Found
+    if room != t + 1 {
+        return Err(Refusal::BadCoefficientsLength);
+    }
+    if members::first(n) < set {
+        return Err(Refusal::MemberBeyondN);
+    }
+    if members::card(set) as usize <= t {
+        return Err(Refusal::SetTooSmall);
+    }
+    if !field_words(values, set) {
+        return Err(Refusal::BadValue);
+    }
+    Ok(())
 }
 
-// What an accepted input is decoded to, in full: the pair, of zeros, is located, and then its E is judged by.
+// Decoding, but that a refusal does not fill the buffer.
 fn work_out(
     t: usize,
-    points: &[u16],
-    values: &[u16],
-    set: u32,
-    pair: &mut [u16],
-    chosen: &mut [u16],
-    coefficients: &mut [u16],
-) -> Outcome
-    requires { (t ≤ 15) × Roster t points.now × (length values.now ≡ size t) × (set < 2 ^ size t) × (pair.old ≡ replicate 64 0) × (length chosen.old ≡ 16) × (length coefficients.old ≡ suc t) }
-    ensures { answer_of result coefficients.new ≡ decoded_from (suc t) (find points.now t 1 (λ i k. get_or values.now i 0) set) }
-{
-    locator::locate(t, points, values, set, pair);
-    judge(t, points, values, set, &pair[32..], chosen, coefficients)
-}
-
-// The same, with room for the pair and for the points that are chosen.
-fn solve_in_full(
-    t: usize,
-    points: &[u16],
-    values: &[u16],
-    set: u32,
-    coefficients: &mut [u16],
-) -> Outcome
-    requires { (t ≤ 15) × Roster t points.now × (length values.now ≡ size t) × (set < 2 ^ size t) × (length coefficients.old ≡ suc t) }
-    ensures { answer_of result coefficients.new ≡ decoded_from (suc t) (find points.now t 1 (λ i k. get_or values.now i 0) set) }
-{
-    let mut pair = [0u16; 64];
-    let mut chosen = [0u16; 16];
-    work_out(t, points, values, set, &mut pair, &mut chosen, coefficients)
-}
-
-// The polynomial through the first t + 1 members of the hint is in the buffer, and enough members of the set agree with it.
-fn guess(
-    t: usize,
-    points: &[u16],
-    values: &[u16],
-    set: u32,
-    hint: u32,
-    chosen: &mut [u16],
-    coefficients: &mut [u16],
-) -> bool
-    requires { (t ≤ 15) × Roster t points.now × (length values.now ≡ size t) × (set < 2 ^ size t) × (length chosen.old ≡ 16) × (length coefficients.old ≡ suc t) }
-    ensures { Guessed points.now t values.now set result coefficients.new }
-{
-    if gather(t, points, values, hint, &[1], chosen, coefficients) <= t {
-        return false;
-    }
-    polynomial::interpolate(&chosen[..t + 1], coefficients);
-    enough_agree(t, points, values, set, coefficients)
-}
-
-// The same, with room for the points that are chosen.
-fn guessed(
-    t: usize,
-    points: &[u16],
     values: &[u16],
     set: u32,
     hint: u32,
     coefficients: &mut [u16],
-) -> bool
-    requires { (t ≤ 15) × Roster t points.now × (length values.now ≡ size t) × (set < 2 ^ size t) × (length coefficients.old ≡ suc t) }
-    ensures { Guessed points.now t values.now set result coefficients.new }
+) -> Result<(), Refusal>
+    ensures { outcome result coefficients.new ≡ decode t values.now set (length coefficients.old) }
 {
-    let mut chosen = [0u16; 16];
-    guess(t, points, values, set, hint, &mut chosen, coefficients)
-}
-
-// What an accepted input is decoded to.
-fn solve(
-    t: usize,
-    points: &[u16],
-    values: &[u16],
-    set: u32,
-    hint: u32,
-    coefficients: &mut [u16],
-) -> Outcome
-    requires { (t ≤ 15) × Roster t points.now × (length values.now ≡ size t) × (set < 2 ^ size t) × (length coefficients.old ≡ suc t) }
-    ensures { answer_of result coefficients.new ≡ decoded_from (suc t) (find points.now t 1 (λ i k. get_or values.now i 0) set) }
-{
-    if guessed(t, points, values, set, hint, coefficients) {
-        return Outcome::Found;
-    }
-    solve_in_full(t, points, values, set, coefficients)
-}
-
-// The same for the members' own points, which are made in a buffer of 31 words.
-fn solve_own(
-    t: usize,
-    values: &[u16],
-    set: u32,
-    hint: u32,
-    points: &mut [u16],
-    coefficients: &mut [u16],
-) -> Outcome
-    requires { (t ≤ 15) × (length values.now ≡ size t) × (set < 2 ^ size t) × (length points.old ≡ 31) × (length coefficients.old ≡ suc t) }
-    ensures { answer_of result coefficients.new ≡ decoded_from (suc t) (find (own_points t) t 1 (λ i k. get_or values.now i 0) set) }
-{
-    let n = members::size(t);
-    members::own_points(&mut points[..n]);
-    solve(t, &points[..n], values, set, hint, coefficients)
-}
-
-// The same, with room for the points.
-fn solved(t: usize, values: &[u16], set: u32, hint: u32, coefficients: &mut [u16]) -> Outcome
-    requires { (t ≤ 15) × (length values.now ≡ size t) × (set < 2 ^ size t) × (length coefficients.old ≡ suc t) }
-    ensures { answer_of result coefficients.new ≡ decoded_from (suc t) (find (own_points t) t 1 (λ i k. get_or values.now i 0) set) }
-{
-    let mut points = [0u16; 31];
-    solve_own(t, values, set, hint, &mut points, coefficients)
+    check(t, values, set, coefficients.len())?;
+    let mut own = [0; 31];
+    let points = &mut own[..members::size(t)];
+    members::own_points(points);
+    let word = Word {
+        t,
+        points,
+        values,
+        set,
+    };
+    word.solve(hint, coefficients)
 }
 
 // Decodes the values of the members of the set into t + 1 coefficients, power 0 first; refusals 1, 11, 19, 12, 17, 18 and 16.
 // The answer does not depend on the hint. If enough members agree with the polynomial through the first t + 1 members of the hint, it is found sooner.
+#[tactic(auto, unfolding(crate::specs::Decoding::undecoded))]
 pub fn decode_near(
     t: usize,
     values: &[u16],
     set: u32,
     hint: u32,
     coefficients: &mut [u16],
-) -> Outcome
+) -> Result<(), Refusal>
     ensures { answer_of result coefficients.new ≡ decode t values.now set (length coefficients.old) }
 {
-    if !members::threshold(t) {
-        return refuse(coefficients, 1);
+    let answer = work_out(t, values, set, hint, coefficients);
+    if answer.is_err() {
+        lists::fill(coefficients, 65535);
     }
-    let n = members::size(t);
-    if values.len() != n {
-        return refuse(coefficients, 11);
-    }
-    if coefficients.len() != t + 1 {
-        return refuse(coefficients, 19);
-    }
-    if members::first(n) < set {
-        return refuse(coefficients, 12);
-    }
-    if members::card(set) as usize <= t {
-        return refuse(coefficients, 17);
-    }
-    if !field_words(values, set) {
-        return refuse(coefficients, 18);
-    }
-    solved(t, values, set, hint, coefficients)
+    answer
 }
 
 // Decoding with no hint.
-pub fn decode(t: usize, values: &[u16], set: u32, coefficients: &mut [u16]) -> Outcome
+pub fn decode(t: usize, values: &[u16], set: u32, coefficients: &mut [u16]) -> Result<(), Refusal>
     ensures { answer_of result coefficients.new ≡ decode t values.now set (length coefficients.old) }
 {
     decode_near(t, values, set, 0, coefficients)

@@ -1,149 +1,136 @@
 // Welch and Berlekamp's two pairs of polynomials, by which a decoder finds where wrong values may be.
 //
-// A pair (N, E) is a buffer of 64 words: N in the first 32, E in the last 32. Both pairs are kept so that N(x) = y · E(x) at each member passed. A member
-// at which a pair is off raises one pair by a factor X − x and frees the other.
+// Both pairs (N, E) are kept so that N(x) = y · E(x) at each member passed. A member at which a pair is off raises one pair by a factor X − x and frees
+// the other.
 #![tactic(auto)]
 
-ghost use Rattle.std.specs.Prelude.{◌≡◌, cond, ◌≤◌, length, take, drop, replicate};
-ghost use Rattle.members.specs.Members.{size};
-ghost use Rattle.locator.specs.Internal.Pairs.{raised, mixed, off_by, Advanced, first_turn, stepped, state_of, Located};
+ghost use Rattle.std.specs.Prelude.{◌≡◌, cond, ◌+◌, ◌≤◌, ◌<◌, length, get_or};
+ghost use Rattle.members.specs.Members.{size, has};
+ghost use Rattle.locator.specs.Internal.Pairs.{raised, mixed, off_by, Advanced, start, first_turn, stepped, state_of, passed};
 
-// The degree of the first pair's N, and that of the second pair's E.
-#[derive(Clone, Copy)]
-struct Degrees {
-    first: usize,
-    second: usize,
+// A pair (N, E), coefficients by power, 0 first.
+#[derive(Drop)]
+struct Pair {
+    n: [u16; 32],
+    e: [u16; 32],
 }
 
-// How far a pair is off at (x, y).
-fn off_by(x: u16, y: u16, pair: &[u16]) -> u16
-    requires { length pair.now ≡ 64 }
-    ensures { result ≡ off_by x y (take 32 pair.now) (drop 32 pair.now) }
-{
-    field::subtract(
-        polynomial::evaluate(&pair[..32], x),
-        field::multiply(y, polynomial::evaluate(&pair[32..], x)),
-    )
+// The two pairs, with the degree of the first one's N and that of the second one's E.
+#[derive(Drop)]
+struct Pairs {
+    first: Pair,
+    second: Pair,
+    first_degree: usize,
+    second_degree: usize,
 }
 
 // (X − x) · f, in place; its last coefficient would be 0.
-fn raise(x: u16, f: &mut [u16])
+fn raise(x: u16, f: &mut [u16; 32])
     ensures { f.new ≡ raised x 0 f.old }
 {
     let minus = field::subtract(0, x);
     let mut carry: u16 = 0;
-    let mut j = 0;
-    while j < f.len() {
-        let old = f[j];
-        f[j] = field::add_product(carry, minus, old);
+    for coefficient in f.iter_mut() {
+        let old = *coefficient;
+        *coefficient = field::add_product(carry, minus, old);
         carry = old;
-        j = j + 1;
     }
 }
 
 // u · f + v · g, in place of f. Inlined, it would make the stack frame of decoding larger.
 #[inline(never)]
-fn mix(u: u16, f: &mut [u16], v: u16, g: &[u16])
-    requires { length f.old ≡ length g.now }
+fn mix(u: u16, f: &mut [u16; 32], v: u16, g: &[u16; 32])
     ensures { f.new ≡ mixed u f.old v g.now }
 {
-    let mut j = 0;
-    while j < f.len() {
-        f[j] = field::add_product(field::multiply(u, f[j]), v, g[j]);
-        j = j + 1;
+    for (j, coefficient) in f.iter_mut().enumerate() {
+        *coefficient = field::add_product(field::multiply(u, *coefficient), v, g[j]);
     }
 }
 
-// The pair p, which is off by dp, is raised at x, and the pair q, which is off by dq, is freed.
-fn advance(x: u16, dp: u16, dq: u16, p: &mut [u16], q: &mut [u16])
-    requires { (length p.old ≡ 64) × (length q.old ≡ 64) }
-    ensures { Advanced x dp dq p.old q.old p.new q.new }
-{
-    mix(dp, q, field::subtract(0, dq), p);
-    raise(x, &mut p[..32]);
-    raise(x, &mut p[32..]);
-}
+impl Pair {
+    // How far the pair is off at (x, y).
+    #[tactic(auto, unfolding(crate::specs::Internal::Pairs::off_by))]
+    fn off_by(&self, x: u16, y: u16) -> u16
+        ensures { result ≡ off_by x y self.now.n self.now.e }
+    {
+        field::subtract(
+            polynomial::evaluate(&self.n, x),
+            field::multiply(y, polynomial::evaluate(&self.e, x)),
+        )
+    }
 
-// The first pair is the one to raise.
-fn first_turn(t: usize, d0: u16, d1: u16, at: Degrees) -> bool
-    requires { (at.second ≤ 32) × (t ≤ 15) }
-    ensures { result ≡ first_turn t d0 d1 at.first at.second }
-{
-    if d0 == 0 {
-        return false;
-    }
-    if d1 == 0 {
-        return true;
-    }
-    at.first <= at.second + t
-}
-
-// The step at (x, y), which gives the new degrees.
-fn step(t: usize, x: u16, y: u16, p: &mut [u16], q: &mut [u16], at: Degrees) -> Degrees
-    requires { (length p.old ≡ 64) × (length q.old ≡ 64) × (at.first ≤ 32) × (at.second ≤ 32) × (t ≤ 15) }
-    ensures { state_of p.new q.new result ≡ stepped t x y (state_of p.old q.old at) }
-{
-    let d0 = off_by(x, y, p);
-    let d1 = off_by(x, y, q);
-    if first_turn(t, d0, d1, at) {
-        advance(x, d0, d1, p, q);
-        return Degrees {
-            first: at.first + 1,
-            second: at.second,
-        };
-    }
-    if d1 == 0 {
-        return at;
-    }
-    advance(x, d1, d0, q, p);
-    Degrees {
-        first: at.first,
-        second: at.second + 1,
+    // This pair, which is off by d, is raised at x, and the other, which is off by d_other, is freed.
+    fn advance(&mut self, x: u16, d: u16, d_other: u16, other: &mut Pair)
+        ensures { Advanced x d d_other self.old other.old self.new other.new }
+    {
+        let minus = field::subtract(0, d_other);
+        mix(d, &mut other.n, minus, &self.n);
+        mix(d, &mut other.e, minus, &self.e);
+        raise(x, &mut self.n);
+        raise(x, &mut self.e);
     }
 }
 
-// The step at (x, y), if its member is in the set.
-fn pass_member(
-    t: usize,
-    x: u16,
-    y: u16,
-    inside: bool,
-    p: &mut [u16],
-    q: &mut [u16],
-    at: Degrees,
-) -> Degrees
-    requires { (length p.old ≡ 64) × (length q.old ≡ 64) × (at.first ≤ 32) × (at.second ≤ 32) × (t ≤ 15) }
-    ensures { state_of p.new q.new result ≡ cond inside (stepped t x y (state_of p.old q.old at)) (state_of p.old q.old at) }
-{
-    if !inside {
-        return at;
+impl Pairs {
+    // The first pair is the one to raise.
+    #[tactic(auto, using(std::proofs::lemmas::Bool::Decides::nat_tests), unfolding(crate::specs::Internal::Pairs::first_turn))]
+    fn first_turn(&self, t: usize, d0: u16, d1: u16) -> bool
+        requires { (self.now.second_degree ≤ 32) × (t ≤ 15) }
+        ensures { result ≡ first_turn t d0 d1 self.now.first_degree self.now.second_degree }
+    {
+        d0 != 0 && (d1 == 0 || self.first_degree <= self.second_degree + t)
     }
-    step(t, x, y, p, q, at)
+
+    // The step at (x, y).
+    #[tactic(auto, using(std::proofs::lemmas::Bool::Decides::nat_tests), unfolding(crate::specs::Internal::Pairs::stepped, crate::specs::Internal::Pairs::step_by, crate::specs::Internal::Pairs::first_up, crate::specs::Internal::Pairs::second_up))]
+    fn step(&mut self, t: usize, x: u16, y: u16)
+        requires { (self.old.first_degree + self.old.second_degree ≤ 31) × (t ≤ 15) }
+        ensures { state_of self.new ≡ stepped t x y (state_of self.old) }
+    {
+        let d0 = self.first.off_by(x, y);
+        let d1 = self.second.off_by(x, y);
+        if self.first_turn(t, d0, d1) {
+            self.first.advance(x, d0, d1, &mut self.second);
+            self.first_degree += 1;
+        } else if d1 != 0 {
+            self.second.advance(x, d1, d0, &mut self.first);
+            self.second_degree += 1;
+        }
+    }
+
+    // All members' steps, from the pairs (1, 0) and (0, 1).
+    fn pass(&mut self, t: usize, points: &[u16], values: &[u16], set: u32)
+        requires { (t ≤ 15) × (length points.now ≡ size t) × (length values.now ≡ size t) × (state_of self.old ≡ start 31) }
+        ensures { state_of self.new ≡ passed points.now t (λ i. get_or values.now i 0) set 31 (size t) }
+    {
+        for (i, y) in values.iter().enumerate() {
+            if members::has(set, i) {
+                self.step(t, points[i], *y);
+            }
+        }
+    }
 }
 
-// All members' steps, from pairs of zeros.
-fn pass(t: usize, points: &[u16], values: &[u16], set: u32, p: &mut [u16], q: &mut [u16])
-    requires { (t ≤ 15) × (length points.now ≡ size t) × (length values.now ≡ size t) × (p.old ≡ replicate 64 0) × (q.old ≡ replicate 64 0) }
-    ensures { Located points.now t values.now set q.new }
+// The second pair's E after all members.
+#[tactic(auto, unfolding(crate::specs::Internal::Pairs::start))]
+pub fn locate(t: usize, points: &[u16], values: &[u16], set: u32, e: &mut [u16; 32])
+    requires { (t ≤ 15) × (length points.now ≡ size t) × (length values.now ≡ size t) }
+    ensures { e.new ≡ (passed points.now t (λ i. get_or values.now i 0) set 31 (size t)).e1 }
 {
-    p[0] = 1;
-    q[32] = 1;
-    let mut at = Degrees {
-        first: 0,
-        second: 0,
+    let mut pairs = Pairs {
+        first: Pair {
+            n: [0; 32],
+            e: [0; 32],
+        },
+        second: Pair {
+            n: [0; 32],
+            e: [0; 32],
+        },
+        first_degree: 0,
+        second_degree: 0,
     };
-    let mut i = 0;
-    while i < values.len() {
-        at = pass_member(t, points[i], values[i], members::has(set, i), p, q, at);
-        i = i + 1;
-    }
-}
-
-// The second pair after all members, in place of zeros.
-pub fn locate(t: usize, points: &[u16], values: &[u16], set: u32, pair: &mut [u16])
-    requires { (t ≤ 15) × (length points.now ≡ size t) × (length values.now ≡ size t) × (pair.old ≡ replicate 64 0) }
-    ensures { Located points.now t values.now set pair.new }
-{
-    let mut first = [0u16; 64];
-    pass(t, points, values, set, &mut first, pair);
+    pairs.first.n[0] = 1;
+    pairs.second.e[0] = 1;
+    pairs.pass(t, points, values, set);
+    *e = pairs.second.e;
 }

@@ -1,11 +1,12 @@
 -- Two pairs of polynomials (N, E) are kept so that N(x) = y · E(x) at each member passed so far. A member at which a pair is off raises one pair by a
 -- factor X − x and frees the other. No public contract of the library cites this.
 -- Assumes nothing.
-use Rattle.std.specs.Prelude.{◌≡◌, ℕ, zero, suc, ◌+◌, Bool, cond, ◌&&◌, ◌||◌, not, List, [], ◌∷◌, leb, eqb, get_or, take, drop, replicate}
+use Rattle.std.specs.Prelude.{◌≡◌, ℕ, zero, suc, ◌+◌, Bool, cond, ◌&&◌, ◌||◌, not, List, [], ◌∷◌, leb, eqb, get_or, replicate}
 use Rattle.field.specs.Field.{sum, difference, product}
 use Rattle.polynomial.specs.Polynomial.{value}
-use Rattle.members.specs.Members.{size, has}
-use Rattle.locator.specs.declared.Degrees.{Degrees}
+use Rattle.members.specs.Members.{has}
+use Rattle.locator.specs.declared.Pair.{Pair}
+use Rattle.locator.specs.declared.Pairs.{Pairs}
 
 -- c + (X − x) · f without its last coefficient, which is 0 wherever this is used
 unfoldable pub raised : ℕ → ℕ → List ℕ → List ℕ
@@ -74,18 +75,13 @@ passed xs t y set len zero = start len
 passed xs t y set len (suc k) =
     cond (has set k) (stepped t (get_or xs k 0) (y k) (passed xs t y set len k)) (passed xs t y set len k)
 
--- the buffers p and q of two pairs become p' and q': p is raised at x, and q freed
-pub record Advanced (x dp dq : ℕ) (p q p' q' : List ℕ) : Type 0 where
-  pub raised_n : take 32 p' ≡ raised x 0 (take 32 p)
-  pub raised_e : drop 32 p' ≡ raised x 0 (drop 32 p)
-  pub freed_n : take 32 q' ≡ mixed dp (take 32 q) (difference 0 dq) (take 32 p)
-  pub freed_e : drop 32 q' ≡ mixed dp (drop 32 q) (difference 0 dq) (drop 32 p)
+-- the pairs p and q become p' and q': p is raised at x, and q freed
+pub record Advanced (x dp dq : ℕ) (p q p' q' : Pair) : Type 0 where
+  pub raised_n : p'.n ≡ raised x 0 p.n
+  pub raised_e : p'.e ≡ raised x 0 p.e
+  pub freed_n : q'.n ≡ mixed dp q.n (difference 0 dq) p.n
+  pub freed_e : q'.e ≡ mixed dp q.e (difference 0 dq) p.e
 
--- the two pairs, from their buffers and the degrees: N in the first 32 words, E after them
-abbrev pub state_of : List ℕ → List ℕ → Degrees → State
-state_of p q d = record { n0 = take 32 p; e0 = drop 32 p; n1 = take 32 q; e1 = drop 32 q; a = d.first; b = d.second }
-
--- a buffer has the second pair after all members, whole
-pub record Located (xs : List ℕ) (t : ℕ) (values : List ℕ) (set : ℕ) (pair : List ℕ) : Type 0 where
-  pub n_is : take 32 pair ≡ (passed xs t (λ i. get_or values i 0) set 31 (size t)).n1
-  pub e_is : drop 32 pair ≡ (passed xs t (λ i. get_or values i 0) set 31 (size t)).e1
+-- the two pairs and their degrees, as the code keeps them
+abbrev pub state_of : Pairs → State
+state_of s = record { n0 = s.first.n; e0 = s.first.e; n1 = s.second.n; e1 = s.second.e; a = s.first_degree; b = s.second_degree }

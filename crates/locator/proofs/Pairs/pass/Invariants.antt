@@ -1,0 +1,11 @@
+-- `locator::Pairs::pass`: the pairs are the state after i members.
+-- Assumes nothing.
+use Rattle.std.proofs.Common.{◌≡◌, ◌+◌, ◌≤◌, get_or}
+use Rattle.locator.specs.Internal.Pairs.{passed, state_of}
+use Rattle.locator.proofs.Pairs.pass.Given as goal
+
+abbrev pub invariant-loop-i : goal.invariant-loop-i
+invariant-loop-i l = record {
+  degrees : l.self.first_degree + l.self.second_degree ≤ l.i;
+  so_far : state_of l.self ≡ passed l.points l.t (λ k. get_or l.values k 0) l.set 31 l.i;
+}
