@@ -56,7 +56,8 @@ impl Word<'_> {
         members::has(set, i) && polynomial::evaluate(e, self.points[i]) != 0
     }
 
-    // The points and values of the first t + 1 members of the set at which e is not 0, if there are so many.
+    // The points and values of the first t + 1 members of the set at which e is not 0, if there are so many. They go into two buffers, since
+    // `polynomial::interpolate` takes points and, in place of the coefficients, values.
     fn gather(&self, set: u32, e: &[u16], chosen: &mut [u16; 16], kept: &mut [u16]) -> bool
         requires { length kept.old ≡ suc self.now.t }
         ensures { Gathered self.now set e.now chosen.new kept.new result }
@@ -106,6 +107,8 @@ impl Word<'_> {
     }
 
     // The polynomial through the first t + 1 of these members at which e is not 0 is in the buffer, and enough members of the set agree with it.
+    // Inlined, since a call would make the stack of decoding larger.
+    #[inline(always)]
     fn through(&self, among: u32, e: &[u16], coefficients: &mut [u16]) -> bool
         requires { length coefficients.old ≡ suc self.now.t }
         ensures { Tried self.now among e.now result coefficients.new }
@@ -126,9 +129,8 @@ impl Word<'_> {
         if self.through(hint, &[1], coefficients) {
             return Ok(());
         }
-        let mut e = [0; 32];
-        locator::locate(self.t, self.points, self.values, self.set, &mut e);
-        if self.through(self.set, &e, coefficients) {
+        let pairs = locator::locate(self.t, self.points, self.values, self.set);
+        if self.through(self.set, &pairs.second.e, coefficients) {
             return Ok(());
         }
         Err(Refusal::TooFewAgree)

@@ -10,18 +10,18 @@ ghost use Rattle.locator.specs.Internal.Pairs.{raised, mixed, off_by, Advanced, 
 
 // A pair (N, E), coefficients by power, 0 first.
 #[derive(Drop)]
-struct Pair {
-    n: [u16; 32],
-    e: [u16; 32],
+pub struct Pair {
+    pub n: [u16; 32],
+    pub e: [u16; 32],
 }
 
 // The two pairs, with the degree of the first one's N and that of the second one's E.
 #[derive(Drop)]
-struct Pairs {
-    first: Pair,
-    second: Pair,
-    first_degree: usize,
-    second_degree: usize,
+pub struct Pairs {
+    pub first: Pair,
+    pub second: Pair,
+    pub first_degree: usize,
+    pub second_degree: usize,
 }
 
 // (X − x) · f, in place; its last coefficient would be 0.
@@ -111,11 +111,11 @@ impl Pairs {
     }
 }
 
-// The second pair's E after all members.
+// The two pairs after all members: the second one's E is 0 at each member with a wrong value, if a polynomial meets enough members.
 #[tactic(auto, unfolding(crate::specs::Internal::Pairs::start))]
-pub fn locate(t: usize, points: &[u16], values: &[u16], set: u32, e: &mut [u16; 32])
+pub fn locate(t: usize, points: &[u16], values: &[u16], set: u32) -> Pairs
     requires { (t ≤ 15) × (length points.now ≡ size t) × (length values.now ≡ size t) }
-    ensures { e.new ≡ (passed points.now t (λ i. get_or values.now i 0) set 31 (size t)).e1 }
+    ensures { state_of result ≡ passed points.now t (λ i. get_or values.now i 0) set 31 (size t) }
 {
     let mut pairs = Pairs {
         first: Pair {
@@ -132,5 +132,5 @@ pub fn locate(t: usize, points: &[u16], values: &[u16], set: u32, e: &mut [u16; 
     pairs.first.n[0] = 1;
     pairs.second.e[0] = 1;
     pairs.pass(t, points, values, set);
-    *e = pairs.second.e;
+    pairs
 }
