@@ -1,7 +1,8 @@
 -- What trying the polynomial through some members decides. One that enough members agree with is the one that decoding answers, wherever it came from; and
 -- where E was located, no polynomial fits but the one through the first t + 1 members at which E is not 0.
 -- Assumes nothing.
-use Rattle.std.proofs.Common.{◌≡◌, ℕ, suc, ◌+◌, ◌≤◌, ◌<◌, ◌^◌, Bool, true, false, cond, List, [], ◌∷◌, length, take, get_or, refl, sym, ap, ap₂, ◌∙◌, subst, add-one, arith}
+use Rattle.std.proofs.Common.{◌≡◌, ℕ, suc, ◌+◌, ◌≤◌, ◌<◌, ◌^◌, Bool, true, false, cond, List}
+use Rattle.std.proofs.Common.{[], ◌∷◌, length, take, get_or, refl, sym, ap, ap₂, ◌∙◌, subst, add-one, arith}
 use Rattle.std.proofs.Math.Option.{Option, none, some}
 use native.Mathlib.Nat.{le_of_eq}
 use lib.Seq.{length-take-le}

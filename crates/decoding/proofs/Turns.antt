@@ -1,6 +1,7 @@
 -- The loops over the members: how a count grows, and what is gathered.
 -- Assumes nothing.
-use Rattle.std.proofs.Common.{◌≡◌, ℕ, suc, ◌+◌, ◌-◌, ◌≤◌, ◌<◌, Bool, true, false, cond, ◌&&◌, List, [], ◌∷◌, ◌++◌, map, length, take, get_or, refl, sym, ap, ◌∙◌, zero-le, add-one, arith}
+use Rattle.std.proofs.Common.{◌≡◌, ℕ, suc, ◌+◌, ◌-◌, ◌≤◌, ◌<◌, Bool, true, false, cond, ◌&&◌, List}
+use Rattle.std.proofs.Common.{[], ◌∷◌, ◌++◌, map, length, take, get_or, refl, sym, ap, ◌∙◌, zero-le, add-one, arith}
 use mathlib.Core.Bool.{and-true}
 use mathlib.Core.List.{map-append, append-nil}
 use native.Mathlib.Nat.{le_of_eq}

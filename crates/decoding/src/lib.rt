@@ -106,7 +106,7 @@ impl Word<'_> {
         least <= self.agreeing(f)
     }
 
-    // The polynomial through the first t + 1 of these members at which e is not 0 is in the buffer, and enough members of the set agree with it.
+    // The polynomial through the first t + 1 members among these at which e is not 0 is in the buffer, and enough members of the set agree with it.
     // Inlined, since a call would make the stack of decoding larger.
     #[inline(always)]
     fn through(&self, among: u32, e: &[u16], coefficients: &mut [u16]) -> bool
