@@ -21,7 +21,7 @@ use Rattle.members.specs.Members.{size, has, set_of}
 use Rattle.members.proofs.Masks.{set_of_ext, set_of-has}
 use Rattle.shares.specs.Layout.{is_length, is_day, width, capacity, word, share}
 use Rattle.shares.specs.Internal.Shape.{InRange}
-use Rattle.shares.proofs.Shapes.{station, is_a_threshold}
+use Rattle.shares.proofs.Shapes.{is_a_threshold}
 use Rattle.shares.proofs.Tests.{day_below}
 use Rattle.text.specs.Lines.{parts, line_of}
 use Rattle.text.proofs.Parts.{parts_some}
@@ -30,7 +30,7 @@ use Rattle.handin.specs.Reader.{HandIn, Share, share_of, is_some, words_or, shar
 use Rattle.handin.specs.Writer.{share_line, share_lines, text_of}
 use Rattle.handin.proofs.Placing.{share_same, share_other}
 use Rattle.handin.proofs.Reaching.{lines_next, lines_end}
-use Rattle.handin.proofs.TextLength.{share_small, text_short}
+use Rattle.handin.proofs.TextLength.{few, share_small, text_short}
 use Rattle.handin.proofs.Writing.{lines_more}
 
 -- a share where the test passes
@@ -90,11 +90,11 @@ module _ (t d : ℕ) (range : InRange t d) (words : List ℕ) (small : (k : ℕ)
       → take_line t d taken (body 80 (suc i ∷ share t d words i)) ≡ shares (mine i ∷ taken)
   unfolding take_line take_numbers take_share is_some
   line_taken i taken h e =
-      let few : size t ≤ 31 = (station t d range).few in
+      let at_most : size t ≤ 31 = few t d range in
       let long : suc (length (share t d words i)) ≡ 1 + width t d = omega (arith, length-tab (width t d) (word t d words i)) in
       let back : line_of 80 (1 + width t d) (body 80 (suc i ∷ share t d words i)) ≡ some (suc i ∷ share t d words i) =
       ap (λ (k : ℕ). line_of 80 k (body 80 (suc i ∷ share t d words i))) (sym long)
-      ∙ line-back 80 (suc i ∷ share t d words i) (λ q. omega (arith, q)) (E.more (omega (arith, h, few)) (share_small t d range words small i)) in
+      ∙ line-back 80 (suc i ∷ share t d words i) (λ q. omega (arith, q)) (E.more (omega (arith, h, at_most)) (share_small t d range words small i)) in
       let from_0 : suc i - 1 ≡ i = omega arith in
       rw (back, from_0, within_intro 1 (size t) (suc i) (omega arith) (omega (arith, h)), e)
 

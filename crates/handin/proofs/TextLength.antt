@@ -17,14 +17,23 @@ use Rattle.lists.proofs.Every.{Every, every_map}
 use Rattle.lists.proofs.Tabulate.{length-tab}
 use Rattle.members.specs.Members.{size, has}
 use Rattle.shares.specs.Layout.{width, word, share}
-use Rattle.shares.specs.Internal.Shape.{InRange, Room}
+use Rattle.shares.specs.Internal.Shape.{InRange}
 use Rattle.shares.specs.declared.Shape.{Shape}
 use Rattle.shares.proofs.Shapes.{station}
 use Rattle.text.specs.Lines.{field, line}
 use Rattle.text.proofs.Printing.{field_most, fields_most, length_list}
 use Rattle.handin.specs.Writer.{first_line, share_line, share_lines, text_of}
 use Rattle.handin.proofs.WriterChecks.{text_length}
-use Rattle.handin.proofs.Writing.{Counted, length_more}
+use Rattle.handin.proofs.Writing.{length_more}
+
+-- few members, and few words
+pub few : (t d : ℕ) → InRange t d → size t ≤ 31
+unfolding size
+few t d range = omega (arith, range.t_high)
+
+narrow : (t d : ℕ) → InRange t d → width t d ≤ 157
+unfolding width size
+narrow t d range = omega (arith, range.t_high, range.d_high)
 
 -- one line more, where there are n
 lines_step : (n had line all : ℕ) → all ≡ had + line → had ≤ 946 * n + (n - 9) → line + (n - 9) ≤ 946 + (suc n - 9) → all ≤ 946 * suc n + (suc n - 9)
@@ -45,8 +54,8 @@ module _ (t d : ℕ) (range : InRange t d) (words : List ℕ) (small : (k : ℕ)
   share_short i =
       let most = fields_most 4 (share t d words i) (every_map (λ n h. omega (arith, h)) (share_small i)) in
       let long : length (share t d words i) ≡ width t d = length-tab (width t d) (word t d words i) in
-      let narrow : width t d ≤ 157 = (station t d range).narrow in
-      omega (arith, most, long, narrow)
+      let slim : width t d ≤ 157 = narrow t d range in
+      omega (arith, most, long, slim)
 
   -- a P line by its member's number
   line_by : (i : ℕ) → length (share_line t d words i) ≤ 944 + length (field (suc i))
@@ -84,7 +93,7 @@ module _ (t d : ℕ) (range : InRange t d) (words : List ℕ) (small : (k : ℕ)
     unfolding text_of ascii
     text_short quorum h day g =
         let ns : List ℕ = t ∷ d ∷ quorum ∷ day ∷ [] in
-        let few : size t ≤ 31 = (station t d range).few in
+        let at_most : size t ≤ 31 = few t d range in
         omega (
           arith,
           length-append (line (ascii "D") ns) (share_lines t d present words (size t)),
@@ -94,25 +103,25 @@ module _ (t d : ℕ) (range : InRange t d) (words : List ℕ) (small : (k : ℕ)
           field_most 1 d (omega (arith, range.d_high)),
           field_most 4 quorum (omega (arith, h)),
           field_most 4 day (omega (arith, g)),
-          lines_most (size t) few,
-          few,
+          lines_most (size t) at_most,
+          at_most,
         )
 
 -- ---- sums of lengths, as the code makes them
 
-module _ (s : Shape) (words : List ℕ) (room : Room s words) (small : (k : ℕ) → get_or words k 0 < 65536) (present : ℕ) where
-  pub lines_fit : (count i k : ℕ) → i < s.n → Counted s.t s.d present words s.n count i
+module _ (s : Shape) (words : List ℕ) (small : (k : ℕ) → get_or words k 0 < 65536) (present : ℕ) where
+  pub lines_fit : (count i k : ℕ) → i < s.n → count ≡ length (share_lines s.t s.d present words i)
       → k ≡ length (cond (has present i) (share_line s.t s.d words i) []) → count + k ≤ 29357
   lines_fit count i k h c e =
-      let few = room.station.few in
+      let at_most = (station s).few in
       omega (
         arith,
-        few,
+        at_most,
         h,
-        c.so_far,
+        c,
         e,
         length_more s.t s.d present words i,
-        lines_most s.t s.d room.station.range words small present (suc i) (omega (arith, few, h)),
+        lines_most s.t s.d (station s).range words small present (suc i) (omega (arith, at_most, h)),
       )
 
   pub text_fits : (quorum : ℕ) → quorum < 65536 → (day : ℕ) → day < 65536 → (a b : ℕ) → a ≡ length (first_line s.t s.d quorum day)
@@ -120,6 +129,6 @@ module _ (s : Shape) (words : List ℕ) (room : Room s words) (small : (k : ℕ)
   text_fits quorum low day small_day a b ea eb =
       omega (
         arith,
-        text_length s quorum day present words room a b ea eb,
-        text_short s.t s.d room.station.range words small present quorum low day small_day,
+        text_length s quorum day present words a b ea eb,
+        text_short s.t s.d (station s).range words small present quorum low day small_day,
       )

@@ -1,6 +1,6 @@
 -- The writer's checks in their order, as the code makes them; and the text, where it fits.
 -- Assumes nothing.
-use mathlib.Core.Path.{◌≡◌, refl, sym, ap, ap₂, ◌∙◌}
+use mathlib.Core.Path.{◌≡◌, refl, ap, ap₂, ◌∙◌}
 use mathlib.Core.Bool.{true, false}
 use mathlib.Core.List.{List, ◌++◌}
 use Prim.Native.Nat.{ℕ, ◌+◌, ◌*◌, ◌≤◌, ◌<◌}
@@ -9,21 +9,21 @@ use borrow.Author.Tests.{le-leb, lt-leb}
 use lib.Dec.{eqb}
 use lib.ListN.{length, drop, length-append}
 use Rattle.lists.specs.Tabulate.{each}
+use Rattle.std.specs.Prelude.{Ok, Err}
 use Rattle.lists.proofs.Checks.{number_fits}
 use Rattle.members.specs.Members.{is_threshold, size, is_set}
 use Rattle.shares.specs.Layout.{is_length, is_day, width}
-use Rattle.shares.specs.Internal.Shape.{shape_of, Room}
 use Rattle.shares.specs.declared.Shape.{Shape}
 use Rattle.text.specs.Internal.Writing.{Written}
-use Rattle.text.proofs.Writing.{written-length, written_then, written_as, written_front, written_count}
+use Rattle.text.proofs.Writing.{written_then, written_as, written_front, written_count}
 use Rattle.handin.specs.Writer.{HandInText, first_line, share_lines, text_of, unwritten, written, checks, write}
 use Rattle.handin.specs.Internal.Fitted.{fitted}
 use Rattle.handin.specs.Answer.{written_of}
-use Rattle.handin.specs.declared.Wrote.TheVariants.{Bytes, Refused}
+use Rattle.refusals.specs.declared.Refusal.TheVariants.{BadThreshold, BadSecretLength, BadDay, BadInputLength, MemberBeyondN, TextBufferTooShort}
 
 -- ---- the last check, and the text
 
-module _ (s : Shape) (quorum day present : ℕ) (words : List ℕ) (room : Room s words) where
+module _ (s : Shape) (quorum day present : ℕ) (words : List ℕ) where
   abbrev line_d : List ℕ
   line_d = first_line s.t s.d quorum day
 
@@ -32,33 +32,35 @@ module _ (s : Shape) (quorum day present : ℕ) (words : List ℕ) (room : Room 
 
   pieces : line_d ++ lines_p ≡ text_of s.t s.d quorum day present words
   unfolding text_of
-  pieces = ap (λ (n : ℕ). line_d ++ share_lines s.t s.d present words n) room.station.members
+  pieces = ap (λ (n : ℕ). line_d ++ share_lines s.t s.d present words n) s.members
 
   pub text_length : (a b : ℕ) → a ≡ length line_d → b ≡ length lines_p → a + b ≡ length (text_of s.t s.d quorum day present words)
   text_length a b ea eb = omega (arith, ea, eb, ap length pieces, length-append line_d lines_p)
 
   module _ (count : ℕ) (e : count ≡ length (text_of s.t s.d quorum day present words)) where
     -- the text has no room
-    pub too_long : (buffer : List ℕ) → length buffer < count → written_of (Refused 31) buffer ≡ fitted (text_of s.t s.d quorum day present words) buffer
+    pub too_long : (buffer : List ℕ) → length buffer < count → written_of (Err TextBufferTooShort) buffer ≡ fitted (text_of s.t s.d quorum day present words) buffer
     unfolding written_of fitted unwritten
     too_long buffer h = rw (← e, lt-leb count (length buffer) h)
 
     -- its lines have room, the D line and then the P lines
-    pub first_fits : (buffer : List ℕ) → count ≤ length buffer → length line_d ≤ length buffer
-    first_fits buffer h = omega (arith, h, e, ap length pieces, length-append line_d lines_p)
+    module _ {before start : List ℕ} {first : ℕ} (fits : count ≤ length before) (front : first ≡ 0) (same : start ≡ before) where
+      pub first_fits : first + length line_d ≤ length start
+      first_fits = omega (arith, e, ap length pieces, length-append line_d lines_p, ap length same)
 
-    pub shares_fit : {before middle : List ℕ} {at : ℕ} → count ≤ length before → Written before 0 line_d middle at → at + length lines_p ≤ length middle
-    shares_fit h w = omega (arith, h, e, w.next, written-length w, ap length pieces, length-append line_d lines_p)
+      pub shares_fit : {middle : List ℕ} {at : ℕ} → Written start first line_d middle at → at + length lines_p ≤ length middle
+      shares_fit w = omega (arith, e, w.next, w.long, ap length pieces, length-append line_d lines_p, ap length same)
 
   -- it is written whole
-  pub both_written : {before middle after : List ℕ} {at end : ℕ} → Written before 0 line_d middle at → Written middle at lines_p after end
-      → written_of (Bytes end) after ≡ fitted (text_of s.t s.d quorum day present words) before
+  pub both_written : {before start middle after : List ℕ} {first at end : ℕ} → first ≡ 0 → start ≡ before
+      → Written start first line_d middle at → Written middle at lines_p after end
+      → (r : ℕ) → r ≡ end → written_of (Ok r) after ≡ fitted (text_of s.t s.d quorum day present words) before
   unfolding written_of fitted written
-  both_written {before = before} {after = after} {end = end} p q =
+  both_written {before = before} {after = after} {end = end} front same p q r told =
       let text : List ℕ = text_of s.t s.d quorum day present words in
-      let w : Written before 0 text after end = written_as pieces (written_then p q) in
+      let w : Written before 0 text after end = rw (front, same) at (written_as pieces (written_then p q)) in
       let count : end ≡ length text = written_count w in
-      rw (le-leb (length text) (length before) (omega (arith, count, w.fits)))
+      rw (told, le-leb (length text) (length before) (omega (arith, count, w.fits)))
       (ap₂ (λ (k : ℕ) (l : List ℕ). let a : HandInText = record { number = 0; count = k; buffer = l } in a) count
       (written_front w ∙ ap (λ (k : ℕ). text ++ drop k before) count))
 
@@ -74,32 +76,32 @@ module _ (t d quorum day present : ℕ) (words buffer : List ℕ) where
       (checks t d day present words text buffer)
       refl (written text buffer) (omega arith)
 
-  pub wrote_1 : is_threshold t ≡ false → written_of (Refused 1) buffer ≡ write t d quorum day present words buffer
+  pub wrote_1 : is_threshold t ≡ false → written_of (Err BadThreshold) buffer ≡ write t d quorum day present words buffer
   unfolding written_of write unwritten
   wrote_1 h = rw h
 
   module _ (threshold : is_threshold t ≡ true) where
-    pub wrote_2 : is_length d ≡ false → written_of (Refused 2) buffer ≡ write t d quorum day present words buffer
+    pub wrote_2 : is_length d ≡ false → written_of (Err BadSecretLength) buffer ≡ write t d quorum day present words buffer
     unfolding written_of write unwritten
     wrote_2 h = rw (threshold, h)
 
     module _ (in_length : is_length d ≡ true) where
-      pub wrote_32 : is_day day ≡ false → written_of (Refused 32) buffer ≡ write t d quorum day present words buffer
+      pub wrote_32 : is_day day ≡ false → written_of (Err BadDay) buffer ≡ write t d quorum day present words buffer
       unfolding written_of write unwritten
       wrote_32 h = rw (threshold, in_length, h)
 
       module _ (is_a_day : is_day day ≡ true) where
-        pub wrote_11 : eqb (length words) (size t * width t d) ≡ false → written_of (Refused 11) buffer ≡ write t d quorum day present words buffer
+        pub wrote_11 : eqb (length words) (size t * width t d) ≡ false → written_of (Err BadInputLength) buffer ≡ write t d quorum day present words buffer
         unfolding written_of write unwritten
         wrote_11 h = rw (threshold, in_length, is_a_day, h)
 
         module _ (long : eqb (length words) (size t * width t d) ≡ true) where
-          pub wrote_12 : is_set (size t) present ≡ false → written_of (Refused 12) buffer ≡ write t d quorum day present words buffer
+          pub wrote_12 : is_set (size t) present ≡ false → written_of (Err MemberBeyondN) buffer ≡ write t d quorum day present words buffer
           unfolding written_of write unwritten
           wrote_12 h = rw (threshold, in_length, is_a_day, long, h)
 
-          pub goes_on : is_set (size t) present ≡ true → (s : Shape) (answer : HandInText) → s ≡ shape_of t d
+          pub goes_on : is_set (size t) present ≡ true → (s : Shape) (answer : HandInText) → (s.t ≡ t) × (s.d ≡ d)
               → answer ≡ fitted (text_of s.t s.d quorum day present words) buffer → answer ≡ write t d quorum day present words buffer
           unfolding write fitted
           goes_on h s answer es e =
-              e ∙ ap (λ (z : Shape). fitted (text_of z.t z.d quorum day present words) buffer) es ∙ sym (rw (threshold, in_length, is_a_day, long, h))
+              e ∙ rw (es.0, es.1, threshold, in_length, is_a_day, long, h)

@@ -1,7 +1,7 @@
 -- The line is the letter D, t, d, the quorum and the day.
 -- Assumes nothing.
 use Rattle.lists.specs.Ascii.{ascii}
-use Rattle.handin.proofs.first_length.Goals as goal
+use Rattle.handin.proofs.Source.first_length.Goals as goal
 
 pub returns : goal.returns
 unfolding ascii
