@@ -1,155 +1,114 @@
 -- The turns of the sums: a member's products added to each word's two sums, and all members' then the row's sum.
 -- Assumes nothing.
-use mathlib.Core.Path.{◌≡◌, sym, ap, ap₂, ◌∙◌, subst}
-use mathlib.Core.List.{List}
-use Prim.Native.Nat.{ℕ, ◌+◌, ◌*◌, ◌/◌, ◌%◌, ◌-◌, ◌≤◌, ◌<◌}
-use native.Mathlib.Nat.{le_refl, le_of_eq}
-use native.Mathlib.Numerals.{add-one}
-use native.Mathlib.Omega.{arith}
-use lib.ListN.{length, get_or, set, take, drop}
+use Rattle.std.proofs.Common.{◌≡◌, ℕ, zero, suc, ◌+◌, ◌*◌, ◌/◌, ◌%◌, ◌≤◌, ◌<◌, List, length, get_or, replicate, refl, sym, ap, ap₂, ◌∙◌, subst, arith, below_more, add-one}
+use Rattle.std.proofs.Math.ListN.{set}
+use Rattle.std.proofs.lemmas.List.{get_or-set_same, get_or-set_other}
+use native.Mathlib.Nat.{le_refl}
+use native.Mathlib.Decide.{dec_le}
 use Rattle.lists.specs.Tabulate.{tab, sum_to}
 use Rattle.lists.proofs.Sums.{sum_to_last}
-use Rattle.lists.proofs.Tables.{Replaced, replaced_first, replaced_next}
-use Rattle.lists.proofs.Tabulate.{length-tab, get_or-tab, tab-get_or}
+use Rattle.lists.proofs.Tabulate.{length-tab, get_or-tab}
 use Rattle.field.specs.Field.{prime}
-use Rattle.field.proofs.Fits.{product_le}
-use Rattle.shares.specs.Layout.{word_place, word, share_word, share_words}
-use Rattle.shares.specs.Internal.Shape.{Room, At}
-use Rattle.shares.specs.declared.Shape.{Shape}
-use Rattle.shares.proofs.Reading.{lent, words_at_lem}
 use Rattle.parity.specs.Internal.Looking.{dot}
-use Rattle.parity.specs.Internal.Summing.{Halves, Summed, sum_at}
+use Rattle.parity.specs.Internal.Summing.{Fits, Cleared, Added, Summed, sum_at}
 
--- the halves of the products of the weight and the words below k are added, the other sums are as they were
-pub record Adding (weight : ℕ) (words low₀ high₀ low high : List ℕ) (k : ℕ) : Type 0 where
-  pub lows : Replaced (λ j. get_or low₀ j 0) (λ j. get_or low₀ j 0 + weight * get_or words j 0 % 65536) 0 (length words) low k
-  pub highs : Replaced (λ j. get_or high₀ j 0) (λ j. get_or high₀ j 0 + weight * get_or words j 0 / 65536) 0 (length words) high k
+-- zeros
+none : (n k : ℕ) → get_or (replicate {A = ℕ} n 0) k 0 ≡ 0
+none zero k = refl
+none (suc n) zero = refl
+none (suc n) (suc k) = none n k
 
-module _ (weight : ℕ) (words low₀ high₀ : List ℕ) (room : Halves (length words) 30 low₀ high₀) where
-  pub adding-first : Adding weight words low₀ high₀ low₀ high₀ 0
-  adding-first =
-      record {
-        lows = replaced_first _ _ _ _ _ (as_read low₀ room.low_long);
-        highs = replaced_first _ _ _ _ _ (as_read high₀ room.high_long);
-      }
-    where
-      as_read : (sums : List ℕ) → length sums ≡ length words → sums ≡ tab (length words) (λ j. get_or sums j 0)
-      as_read sums e = sym (tab-get_or sums 0) ∙ ap (λ (n : ℕ). tab n (λ j. get_or sums j 0)) e
-
-  module _ (low high : List ℕ) (k : ℕ) (h : Adding weight words low₀ high₀ low high k) where
-    module _ (l : k < length words) where
-      -- the sums at k have room for one product more
-      pub low_room : get_or low k 0 ≤ 65535 * 30
-      low_room = subst (λ (v : ℕ). v ≤ 65535 * 30) (sym (h.lows.left k (le_refl k) l)) (room.low_fits k l)
-
-      pub high_room : get_or high k 0 ≤ 65535 * 30
-      high_room = subst (λ (v : ℕ). v ≤ 65535 * 30) (sym (h.highs.left k (le_refl k) l)) (room.high_fits k l)
-
-      pub adding_next : (p : ℕ) → p ≡ weight * get_or words k 0 → Adding weight words low₀ high₀ (set low k (get_or low k 0 + p % 65536)) (set high k (get_or high k 0 + p / 65536)) (k + 1)
-      adding_next p e =
-          record {
-            lows = replaced_next _ _ _ _ _ _ _ l h.lows (ap₂ (λ (v q : ℕ). v + q % 65536) (h.lows.left k (le_refl k) l) e);
-            highs = replaced_next _ _ _ _ _ _ _ l h.highs (ap₂ (λ (v q : ℕ). v + q / 65536) (h.highs.left k (le_refl k) l) e);
-          }
-
--- halves of more members, of as many words
-pub halves_most : {d i : ℕ} {low high : List ℕ} (n m : ℕ) → d ≡ n → i ≤ m → Halves d i low high → Halves n m low high
-halves_most n m e l h =
+pub cleared : {low high : List ℕ} (m n : ℕ) → low ≡ replicate m 0 → high ≡ replicate n 0 → Cleared low high
+cleared m n el eh =
     record {
-      low_long = h.low_long ∙ e;
-      high_long = h.high_long ∙ e;
-      low_fits = λ k b. omega (arith, e, l, h.low_fits k (omega arith));
-      high_fits = λ k b. omega (arith, e, l, h.high_fits k (omega arith));
+      low_none = λ k. ap (λ (l : List ℕ). get_or l k 0) el ∙ none m k;
+      high_none = λ k. ap (λ (l : List ℕ). get_or l k 0) eh ∙ none n k;
     }
 
-module _ (d : ℕ) (y : ℕ → ℕ → ℕ) (row : List ℕ) where
-  pub summed_first : (low high : List ℕ) (n : ℕ) → n ≡ d → low ≡ tab n (λ k. 0) → high ≡ tab n (λ k. 0) → Summed d y row 0 low high
-  unfolding sum_to
-  summed_first low high n e el eh =
-      record {
-        halves =
-            record {
-              low_long = ap length el ∙ length-tab n (λ k. 0) ∙ e;
-              high_long = ap length eh ∙ length-tab n (λ k. 0) ∙ e;
-              low_fits = λ k l. le_of_eq (none low el k l);
-              high_fits = λ k l. le_of_eq (none high eh k l);
-            };
-        so_far = λ k l. ap₂ (λ (a b : ℕ). a + 65536 * b) (none low el k l) (none high eh k l);
-      }
-    where
-      none : (sums : List ℕ) → sums ≡ tab n (λ k. 0) → (k : ℕ) → k < d → get_or sums k 0 ≡ 0
-      none sums h k l = ap (λ (s : List ℕ). get_or s k 0) h ∙ get_or-tab n (λ k. 0) k 0 (omega arith)
+pub cleared_fits : {low high : List ℕ} (i : ℕ) → Cleared low high → Fits i low high
+cleared_fits i h = record { low_fits = λ k. omega (arith, h.low_none k); high_fits = λ k. omega (arith, h.high_none k) }
 
-  module _ (low high : List ℕ) (i : ℕ) (words next_low next_high : List ℕ) (h : Summed d y row i low high) (ew : words ≡ tab d (y i))
-      (small : (k : ℕ) → get_or row i 0 * y i k ≤ 4294836225)
-      (el : next_low ≡ tab (length words) (λ k. get_or low k 0 + get_or row i 0 * get_or words k 0 % 65536))
-      (eh : next_high ≡ tab (length words) (λ k. get_or high k 0 + get_or row i 0 * get_or words k 0 / 65536)) where
-    long : length words ≡ d
-    long = ap length ew ∙ length-tab d (y i)
+-- halves of more members
+pub fits_most : {low high : List ℕ} {i : ℕ} (m : ℕ) → i ≤ m → Fits i low high → Fits m low high
+fits_most m l h = record { low_fits = λ k. omega (arith, h.low_fits k); high_fits = λ k. omega (arith, h.high_fits k) }
 
-    read : (k : ℕ) → k < d → get_or words k 0 ≡ y i k
-    read k l = ap (λ (r : List ℕ). get_or r k 0) ew ∙ get_or-tab d (y i) k 0 l
+module _ (weight : ℕ) (words low₀ high₀ : List ℕ) where
+  pub added_none : Added weight words low₀ high₀ 0 low₀ high₀
+  added_none = record { small = λ k l. absurd (omega arith); low_added = λ k l. absurd (omega arith); high_added = λ k l. absurd (omega arith); low_kept = λ k l. refl; high_kept = λ k l. refl }
 
-    low_at : (k : ℕ) → k < d → get_or next_low k 0 ≡ get_or low k 0 + get_or row i 0 * y i k % 65536
-    low_at k l =
-        ap (λ (r : List ℕ). get_or r k 0) el
-        ∙ get_or-tab (length words) (λ k. get_or low k 0 + get_or row i 0 * get_or words k 0 % 65536) k 0 (omega (arith, long))
-        ∙ ap (λ (w : ℕ). get_or low k 0 + get_or row i 0 * w % 65536) (read k l)
-
-    high_at : (k : ℕ) → k < d → get_or next_high k 0 ≡ get_or high k 0 + get_or row i 0 * y i k / 65536
-    high_at k l =
-        ap (λ (r : List ℕ). get_or r k 0) eh
-        ∙ get_or-tab (length words) (λ k. get_or high k 0 + get_or row i 0 * get_or words k 0 / 65536) k 0 (omega (arith, long))
-        ∙ ap (λ (w : ℕ). get_or high k 0 + get_or row i 0 * w / 65536) (read k l)
-
-    pub summed_next : Summed d y row (i + 1) next_low next_high
-    summed_next =
+  module _ (low high : List ℕ) (n : ℕ) (h : Added weight words low₀ high₀ n low high) where
+    pub added_next : (p : ℕ) → p ≡ weight * get_or words n 0 → p ≤ 4294836225 → n < length low → n < length high
+        → Added weight words low₀ high₀ (n + 1) (set low n (get_or low n 0 + p % 65536)) (set high n (get_or high n 0 + p / 65536))
+    added_next p e b ll lh =
         record {
-          halves =
-              record {
-                low_long = ap length el ∙ length-tab (length words) _ ∙ long;
-                high_long = ap length eh ∙ length-tab (length words) _ ∙ long;
-                low_fits = λ k l. low_fit (get_or row i 0 * y i k) (get_or low k 0) (low_at k l) (h.halves.low_fits k l);
-                high_fits = λ k l. high_fit (get_or row i 0 * y i k) (get_or high k 0) (high_at k l) (small k) (h.halves.high_fits k l);
-              };
-          so_far = λ k l.
-              joined (get_or row i 0 * y i k) (get_or low k 0) (get_or high k 0) (low_at k l) (high_at k l) (h.so_far k l)
-              ∙ sym (sum_to_last i (λ j. get_or row j 0 * y j k))
-              ∙ ap (λ (m : ℕ). sum_to m (λ j. get_or row j 0 * y j k)) (sym (add-one i));
+          small = below_more _ n h.small (subst (λ (q : ℕ). q ≤ 4294836225) e b);
+          low_added =
+              below_more _ n (λ j b. get_or-set_other low n j _ 0 (λ q. omega arith) ∙ h.low_added j b)
+              (get_or-set_same low n _ 0 ll ∙ ap₂ (λ (v q : ℕ). v + q % 65536) (h.low_kept n (le_refl n)) e);
+          high_added =
+              below_more _ n (λ j b. get_or-set_other high n j _ 0 (λ q. omega arith) ∙ h.high_added j b)
+              (get_or-set_same high n _ 0 lh ∙ ap₂ (λ (v q : ℕ). v + q / 65536) (h.high_kept n (le_refl n)) e);
+          low_kept = λ j b. get_or-set_other low n j _ 0 (λ q. omega arith) ∙ h.low_kept j (omega arith);
+          high_kept = λ j b. get_or-set_other high n j _ 0 (λ q. omega arith) ∙ h.high_kept j (omega arith);
+        }
+
+    -- a place that is still as it was has room for one product more
+    pub low_room : Fits 30 low₀ high₀ → get_or low n 0 ≤ 65535 * 30
+    low_room f = omega (arith, h.low_kept n (le_refl n), f.low_fits n)
+
+    -- the sums are then of one member more
+    pub added_fits : (i : ℕ) → Fits i low₀ high₀ → Fits (i + 1) low high
+    added_fits i f =
+        record {
+          low_fits = λ k. elim (dec_le n k) [
+            | yes l ↦ kept i (h.low_kept k l) (f.low_fits k)
+            | no l ↦ low_fit i (weight * get_or words k 0) (h.low_added k (omega arith)) (f.low_fits k)
+          ];
+          high_fits = λ k. elim (dec_le n k) [
+            | yes l ↦ kept i (h.high_kept k l) (f.high_fits k)
+            | no l ↦ high_fit i (weight * get_or words k 0) (h.high_added k (omega arith)) (h.small k (omega arith)) (f.high_fits k)
+          ];
         }
       where
-        low_fit : (p a : ℕ) {b : ℕ} → b ≡ a + p % 65536 → a ≤ 65535 * i → b ≤ 65535 * (i + 1)
-        low_fit p a e l = omega arith
+        kept : (i : ℕ) {a b : ℕ} → b ≡ a → a ≤ 65535 * i → b ≤ 65535 * (i + 1)
+        kept i e l = omega arith
 
-        high_fit : (p a : ℕ) {b : ℕ} → b ≡ a + p / 65536 → p ≤ 4294836225 → a ≤ 65535 * i → b ≤ 65535 * (i + 1)
-        high_fit p a e s l = omega arith
+        low_fit : (i p : ℕ) {a b : ℕ} → b ≡ a + p % 65536 → a ≤ 65535 * i → b ≤ 65535 * (i + 1)
+        low_fit i p e l = omega arith
 
-        joined : (p l h : ℕ) {l' h' n : ℕ} → l' ≡ l + p % 65536 → h' ≡ h + p / 65536 → l + 65536 * h ≡ n → l' + 65536 * h' ≡ n + p
-        joined p l h el eh e = omega arith
+        high_fit : (i p : ℕ) {a b : ℕ} → b ≡ a + p / 65536 → p ≤ 4294836225 → a ≤ 65535 * i → b ≤ 65535 * (i + 1)
+        high_fit i p e s l = omega arith
 
-  pub summed_last : (low high : List ℕ) (i n : ℕ) → i ≡ n → Summed d y row i low high → Summed d y row n low high
-  summed_last low high i n e h = subst (λ (m : ℕ). Summed d y row m low high) e h
+module _ (d : ℕ) (y : ℕ → ℕ → ℕ) (row : List ℕ) where
+  pub summed_first : {low high : List ℕ} → Cleared low high → Summed d y row 0 low high
+  unfolding sum_to
+  summed_first h = record { fits = cleared_fits 0 h; so_far = λ k l. ap₂ (λ (a b : ℕ). a + 65536 * b) (h.low_none k) (h.high_none k) }
 
--- a member's share words, as the code lends them
-module _ (s : Shape) (shares : List ℕ) (room : Room s shares) (i at : ℕ) (there : At s i (word_place 0) s.d at) where
-  pub member_words : take (at + s.d - at) (drop at shares) ≡ tab s.d (share_word s.t s.d shares i)
-  unfolding share_words
-  member_words = lent at s.d shares ∙ words_at_lem s shares room i at there
+  pub summed_next : (i : ℕ) (words low high next_low next_high : List ℕ) → Summed d y row i low high → words ≡ tab d (y i)
+      → Added (get_or row i 0) words low high (length words) next_low next_high
+      → Summed d y row (i + 1) next_low next_high
+  summed_next i words low high next_low next_high h ew added =
+      record {
+        fits = added_fits (get_or row i 0) words low high next_low next_high (length words) added i h.fits;
+        so_far = λ k l.
+            joined (get_or row i 0 * y i k) (get_or low k 0) (get_or high k 0)
+            (added.low_added k (inside k l) ∙ ap (λ (w : ℕ). get_or low k 0 + get_or row i 0 * w % 65536) (read k l))
+            (added.high_added k (inside k l) ∙ ap (λ (w : ℕ). get_or high k 0 + get_or row i 0 * w / 65536) (read k l))
+            (h.so_far k l)
+            ∙ sym (sum_to_last i (λ j. get_or row j 0 * y j k))
+            ∙ ap (λ (m : ℕ). sum_to m (λ j. get_or row j 0 * y j k)) (sym (add-one i));
+      }
+    where
+      inside : (k : ℕ) → k < d → k < length words
+      inside k l = omega (arith, ap length ew ∙ length-tab d (y i))
 
-  pub member_count : s.d ≡ length (take (at + s.d - at) (drop at shares))
-  member_count = sym (ap length member_words ∙ length-tab s.d (share_word s.t s.d shares i))
+      read : (k : ℕ) → k < d → get_or words k 0 ≡ y i k
+      read k l = ap (λ (r : List ℕ). get_or r k 0) ew ∙ get_or-tab d (y i) k 0 l
 
--- and a word's product with one of them
-pub member_small : (t d : ℕ) (shares : List ℕ) (i w : ℕ) → ((k : ℕ) → get_or shares k 0 < 65536) → w < 65536 → (k : ℕ) → w * share_word t d shares i k ≤ 4294836225
-unfolding word
-member_small t d shares i w h l k = product_le w _ l (h _)
+      joined : (p l h : ℕ) {l' h' n : ℕ} → l' ≡ l + p % 65536 → h' ≡ h + p / 65536 → l + 65536 * h ≡ n → l' + 65536 * h' ≡ n + p
+      joined p l h el eh e = omega arith
 
 -- the sum that is read is the row's
 pub sum_at_lem : (d n : ℕ) (y : ℕ → ℕ → ℕ) (row low high : List ℕ) → Summed d y row n low high → (k : ℕ) → k < d → sum_at low high k ≡ dot n row (λ i. y i k)
 unfolding sum_at dot
 sum_at_lem d n y row low high h k l = ap (λ (v : ℕ). v % prime) (h.so_far k l)
-
--- what is read at k, joined, is the sum there
-pub as_summed : (low high : List ℕ) (k r : ℕ) → r ≡ (get_or low k 0 + 65536 * get_or high k 0) % prime → r ≡ sum_at low high k
-unfolding sum_at
-as_summed low high k r e = e

@@ -7,7 +7,7 @@ use Prim.Native.Nat.{ℕ, zero, suc, ◌-◌, ◌*◌, ◌%◌, ◌≤◌, ◌<�
 use native.Mathlib.Nat.{not-suc-le-zero, mul-le-mul, mul_comm, mul-zero, zero-mul}
 use native.Mathlib.Omega.{arith}
 use lib.Dec.{eqb, ltb}
-use lib.ListN.{length, get_or}
+use lib.ListN.{get_or}
 use borrow.Author.Tests.{eqb-true, ltb-true}
 use Rattle.lists.specs.Tabulate.{tab, all, concat}
 use Rattle.lists.proofs.Bools.{test, and_left, and_right}

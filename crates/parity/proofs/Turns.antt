@@ -3,19 +3,18 @@
 use mathlib.Core.Path.{◌≡◌, refl, sym, ap, ap₂, ◌∙◌, subst}
 use mathlib.Core.Logic.{inl, inr}
 use mathlib.Core.Bool.{Bool, true, false, cond, ◌&&◌}
-use mathlib.Core.List.{List}
+use mathlib.Core.List.{List, ◌++◌}
 use Prim.Native.Nat.{ℕ, zero, suc, ◌+◌, ◌-◌, ◌*◌, ◌%◌, ◌^◌, ◌≤◌, ◌<◌, zero-le, suc-le-suc}
-use native.Mathlib.Nat.{le_refl, le_of_suc-le-suc, not-suc-le-zero, mul-one, mul_assoc, pow-suc, pow-zero}
+use native.Mathlib.Nat.{le_of_suc-le-suc, not-suc-le-zero, mul-one, mul_assoc, pow-suc, pow-zero}
 use native.Mathlib.Numerals.{add-one}
 use native.Mathlib.Omega.{arith}
 use lib.Dec.{eqb, ltb}
-use lib.ListN.{length, get_or}
-use lib.Seq.{sets, get_or-take}
-use borrow.Author.Tests.{eq-eqb, ne_eqb, lt-ltb, le-ltb}
+use lib.ListN.{length, get_or, drop}
+use lib.Seq.{sets, sets-eq, get_or-take}
+use borrow.Author.Tests.{eq-eqb, ne_eqb}
 use Rattle.lists.specs.Tabulate.{tab, all}
 use Rattle.lists.proofs.Sums.{sum_to_ext}
 use Rattle.lists.proofs.Stores.{sets-read}
-use Rattle.lists.proofs.Tables.{Replaced}
 use Rattle.lists.proofs.Tabulate.{length-tab, get_or-tab, tab_ext, all_elim, all_intro, all_last}
 use Rattle.lists.proofs.Bools.{test, and_intro, and_right, same_test}
 use Rattle.field.specs.Field.{prime, product}
@@ -28,11 +27,6 @@ use Rattle.parity.specs.Internal.Summing.{Summed, sum_at}
 use Rattle.parity.proofs.Summing.{sum_at_lem}
 use Rattle.parity.proofs.Sums.{same_sum}
 
--- a row's entry at i, still as it was, times its point
-pub raised : (row₀ row : List ℕ) (i w : ℕ) → Replaced (λ k. get_or row₀ k 0) (λ k. product (get_or row₀ k 0) (suc k)) 0 (length row₀) row i → i < length row₀
-    → w ≡ product (get_or row i 0) (i + 1) → w ≡ product (get_or row₀ i 0) (suc i)
-raised row₀ row i w h l e = e ∙ ap₂ product (h.left i (le_refl i) l) (add-one i)
-
 -- the factorial of one more
 pub factorial_next : (k result w : ℕ) → result ≡ factorial k % prime → w ≡ product (k + 1) result → w ≡ factorial (k + 1) % prime
 unfolding factorial product
@@ -42,20 +36,7 @@ factorial_next k result w h e =
     ∙ (times (k + 1) (reduced (factorial k))).same
     ∙ ap (λ (m : ℕ). m % prime) (ap (λ (m : ℕ). m * factorial k) (add-one k) ∙ sym (ap factorial (add-one k)))
 
-pub factorial_last : (n k result : ℕ) → k ≡ n → result ≡ factorial k % prime → result ≡ factorial n % prime
-factorial_last n k result e h = h ∙ ap (λ (m : ℕ). factorial m % prime) e
-
--- the weight for the value at 0, as it is made
-module _ (n scale i next : ℕ) (en : next ≡ i + 1) where
-  pub no_next : n ≤ next → 0 ≡ cond (ltb (suc i) n) (product scale (weight n (suc i))) 0
-  no_next h = sym (ap (λ (b : Bool). cond b (product scale (weight n (suc i))) 0) (le-ltb (suc i) n (subst (λ (k : ℕ). n ≤ k) (en ∙ add-one i) h)))
-
-  pub by_next : next < n → (m w r : ℕ) → n ≡ m → w ≡ weight m next → r ≡ product scale w → r ≡ cond (ltb (suc i) n) (product scale (weight n (suc i))) 0
-  by_next h m w r em ew er =
-      er
-      ∙ ap (product scale) (ew ∙ ap₂ weight (sym em) (en ∙ add-one i))
-      ∙ sym (ap (λ (b : Bool). cond b (product scale (weight n (suc i))) 0) (lt-ltb (suc i) n (subst (λ (k : ℕ). k < n) (en ∙ add-one i) h)))
-
+-- the weight for the value at 0, with its scale
 pub zero-weight : (n k scale f i r : ℕ) → k ≡ n → f ≡ factorial (k - 1) % prime → scale ≡ product 65520 f
     → r ≡ cond (ltb (suc i) k) (product scale (weight k (suc i))) 0 → r ≡ zero_weight n i
 unfolding zero_weight zero_scale
@@ -204,14 +185,20 @@ pub looked-le : (t d : ℕ) (y : ℕ → ℕ → ℕ) (left : ℕ) → left ≡ 
 unfolding looked
 looked-le t d y left e = subst (λ (n : ℕ). n ≤ d) (sym e) (leading_le d (λ k. balanced t (λ i. y i k)))
 
+-- values in front of what was there
+front : (l vs : List ℕ) (k : ℕ) → length vs ≡ k → k ≤ length l → vs ++ drop k l ≡ sets l 0 vs
+front l vs k e h = ap (λ (n : ℕ). vs ++ drop n l) {y = 0 + length vs} (omega arith) ∙ sym (sets-eq vs l 0 (omega arith))
+
 -- the values that are stored are those at 0
-pub stored_values : (t n d : ℕ) (y : ℕ → ℕ → ℕ) (row low high : List ℕ) (k : ℕ) (before after : List ℕ) → n ≡ size t → row ≡ tab (size t) (zero_weight (size t))
-    → Summed d y row n low high → k ≤ d → after ≡ sets before 0 (tab k (sum_at low high)) → after ≡ with_values t k y before
+pub stored_values : (t n d : ℕ) (y : ℕ → ℕ → ℕ) (row low high : List ℕ) (k m : ℕ) (before values : List ℕ) → n ≡ size t → row ≡ tab (size t) (zero_weight (size t))
+    → Summed d y row n low high → k ≤ d → k ≤ length before → m ≡ k → values ≡ tab m (sum_at low high) → values ++ drop k before ≡ with_values t k y before
 unfolding with_values constant dot
-stored_values t n d y row low high k before after en er sums few ea =
-    ea
+stored_values t n d y row low high k m before values en er sums few inside em ev =
+    let own : values ≡ tab k (sum_at low high) = ev ∙ ap (λ (j : ℕ). tab j (sum_at low high)) em in
+    front before values k (ap length own ∙ length-tab k (sum_at low high)) inside
     ∙ ap (sets before 0)
-    (tab_ext k (sum_at low high) (λ j. constant (size t) (λ i. y i j))
+    (own
+    ∙ tab_ext k (sum_at low high) (λ j. constant (size t) (λ i. y i j))
     (λ j l.
     sum_at_lem d n y row low high sums j (omega (arith, l, few))
     ∙ ap (λ (m : ℕ). dot m row (λ i. y i j)) en

@@ -1,18 +1,16 @@
 // The parity weights, and the quick look: words of all n members that lie on a polynomial of degree at most t are known by sums of products.
 #![tactic(auto)]
 
-ghost use Rattle.std.specs.Prelude.{◌≡◌, cond, suc, ◌+◌, ◌*◌, ◌/◌, ◌%◌, ◌≤◌, ◌<◌, eqb, ltb, length, get_or};
-ghost use Rattle.std.proofs.lemmas.List.Edits.{sets};
+ghost use Rattle.std.specs.Prelude.{◌≡◌, cond, suc, ◌*◌, ◌%◌, ◌≤◌, ◌<◌, eqb, ltb, length, get_or};
 ghost use Rattle.lists.specs.Tabulate.{tab};
 ghost use Rattle.field.specs.Field.{prime, product};
 ghost use Rattle.members.specs.Members.{size};
 ghost use Rattle.shares.specs.Layout.{share_word};
-ghost use Rattle.shares.specs.Internal.Shape.{Room};
 ghost use Rattle.parity.specs.Parity.{factorial as factorial_of, weight as weight_of};
 ghost use Rattle.parity.specs.Internal.Looking.{leading, zero_weight, looked, with_values};
-ghost use Rattle.parity.specs.Internal.Summing.{Halves, Summed, sum_at};
+ghost use Rattle.parity.specs.Internal.Summing.{Fits, Cleared, Added, Summed, sum_at};
 
-use shares::Shape;
+use shares::Shares;
 
 // The weights of n = 3, 5, .., 31 members.
 const WEIGHTS: [u16; 255] = [
@@ -46,40 +44,24 @@ pub fn weight(t: usize, i: usize) -> u16
 }
 
 // The weights of a station's members.
+#[tactic(auto, using(lists::proofs::Loops::writes))]
 fn fill_weights(t: usize, row: &mut [u16])
     requires { (1 ≤ t) × (t ≤ 15) × (length row.old ≡ size t) }
     ensures { row.new ≡ tab (size t) (weight_of (size t)) }
 {
-    let mut i = 0;
-    while i < row.len() {
-        row[i] = weight(t, i);
-        i = i + 1;
+    for (i, entry) in row.iter_mut().enumerate() {
+        *entry = weight(t, i);
     }
 }
 
 // Each entry of the row times its member's point.
+#[tactic(auto, using(lists::proofs::Loops::rewrites))]
 fn raise(row: &mut [u16])
     requires { length row.old ≤ 31 }
     ensures { row.new ≡ tab (length row.old) (λ i. product (get_or row.old i 0) (suc i)) }
 {
-    let mut i = 0;
-    while i < row.len() {
-        row[i] = field::multiply(row[i], (i + 1) as u16);
-        i = i + 1;
-    }
-}
-
-// No sums yet.
-fn clear(low: &mut [u32], high: &mut [u32])
-    requires { length low.old ≡ length high.old }
-    ensures low_after { low.new ≡ tab (length low.old) (λ k. 0) }
-    ensures high_after { high.new ≡ tab (length low.old) (λ k. 0) }
-{
-    let mut k = 0;
-    while k < low.len() {
-        low[k] = 0;
-        high[k] = 0;
-        k = k + 1;
+    for (i, entry) in row.iter_mut().enumerate() {
+        *entry = field::multiply(*entry, (i + 1) as u16);
     }
 }
 
@@ -87,80 +69,98 @@ fn clear(low: &mut [u32], high: &mut [u32])
 fn product_of(a: u16, b: u16) -> u32
     ensures { (result ≡ a * b) × (result ≤ 4294836225) }
 {
-    a as u32 * b as u32
+    u32::from(a) * u32::from(b)
 }
 
-// A weight times each of a member's share words, added to the sums: the products' low and high halves apart.
-fn add_member(weight: u16, words: &[u16], low: &mut [u32], high: &mut [u32])
-    requires { Halves (length words.now) 30 low.old high.old }
-    ensures low_after { low.new ≡ tab (length words.now) (λ k. get_or low.old k 0 + weight * get_or words.now k 0 % 65536) }
-    ensures high_after { high.new ≡ tab (length words.now) (λ k. get_or high.old k 0 + weight * get_or words.now k 0 / 65536) }
-{
-    let mut k = 0;
-    while k < words.len() {
-        let product = product_of(weight, words[k]);
-        low[k] = low[k] + product % 65536;
-        high[k] = high[k] + product / 65536;
-        k = k + 1;
+// A sum of products for each of 64 places. The products' low and high halves are summed apart, in two arrays, so that the compiler works on several places at once.
+#[derive(Drop)]
+struct Halves {
+    low: [u32; 64],
+    high: [u32; 64],
+    ghost fits: { Fits 31 low high },
+}
+
+impl Halves {
+    // No sums yet.
+    fn clear(&mut self)
+        ensures { Cleared self.new.low self.new.high }
+    {
+        self.low.fill(0);
+        self.high.fill(0);
     }
-}
 
-// For each place k, the sum of each entry of the row times its member's share word there.
-fn sum_row(s: Shape, shares: &[u16], row: &[u16], low: &mut [u32], high: &mut [u32])
-    requires room { Room s shares.now }
-    requires row_len { (length row.now ≡ s.n) × (length low.old ≡ s.d) × (length high.old ≡ s.d) }
-    ensures { Summed s.d (share_word s.t s.d shares.now) row.now s.n low.new high.new }
-{
-    clear(low, high);
-    let d = s.d;
-    let mut i = 0;
-    while i < row.len() {
-        let at = shares::words_at(s, i);
-        let end = at + d;
-        add_member(row[i], &shares[at..end], low, high);
-        i = i + 1;
-    }
-}
-
-// How many of the first `most` words have the sum 0, before one that has not.
-fn passing(low: &[u32], high: &[u32], most: usize) -> usize
-    requires halves { Halves (length low.now) 31 low.now high.now }
-    requires most_in_bounds { most ≤ length low.now }
-    ensures { result ≡ leading most (λ k. eqb (sum_at low.now high.now k) 0) }
-{
-    let mut k = 0;
-    while k < most {
-        if field::join_halves(low[k], high[k]) != 0 {
-            return k;
+    // A weight times each of a member's share words, added to the sums.
+    fn add_member(&mut self, weight: u16, words: &[u16])
+        requires few_words { length words.now ≤ 64 }
+        requires room { Fits 30 self.old.low self.old.high }
+        ensures { Added weight words.now self.old.low self.old.high (length words.now) self.new.low self.new.high }
+    {
+        for (k, word) in words.iter().enumerate() {
+            let product = product_of(weight, *word);
+            self.low[k] += product % 65536;
+            self.high[k] += product / 65536;
         }
-        k = k + 1;
     }
-    most
+
+    // For each place k, the sum of each entry of the row times its member's share word there.
+    fn sum_row(&mut self, shares: &Shares, row: &[u16])
+        requires { length row.now ≡ shares.now.shape.n }
+        ensures { Summed shares.now.shape.d (share_word shares.now.shape.t shares.now.shape.d shares.now.words.now) row.now shares.now.shape.n self.new.low self.new.high }
+    {
+        self.clear();
+        for (i, entry) in row.iter().enumerate() {
+            self.add_member(*entry, shares.share_words(i));
+        }
+    }
+
+    // The sum at place k, modulo p.
+    #[tactic(auto, unfolding(crate::specs::Internal::Summing::sum_at))]
+    fn at(&self, k: usize) -> u16
+        requires k_bound { k < 64 }
+        ensures { result ≡ sum_at self.now.low self.now.high k }
+    {
+        field::join_halves(self.low[k], self.high[k])
+    }
+
+    // How many of the first `most` places have the sum 0, before one that has not.
+    fn passing(&self, most: usize) -> usize
+        requires most_bound { most ≤ 64 }
+        ensures { result ≡ leading most (λ k. eqb (sum_at self.now.low self.now.high k) 0) }
+    {
+        for k in 0..most {
+            if self.at(k) != 0 {
+                return k;
+            }
+        }
+        most
+    }
+
+    // The sums of the first places, stored.
+    #[tactic(auto, using(lists::proofs::Loops::writes))]
+    fn store_values(&self, values: &mut [u16])
+        requires values_len { length values.old ≤ 64 }
+        ensures { values.new ≡ tab (length values.old) (sum_at self.now.low self.now.high) }
+    {
+        for (k, value) in values.iter_mut().enumerate() {
+            *value = self.at(k);
+        }
+    }
 }
 
 // How many words have all t sums 0, before one that has not.
-fn count_balanced(
-    s: Shape,
-    shares: &[u16],
-    row: &mut [u16],
-    low: &mut [u32],
-    high: &mut [u32],
-) -> usize
-    requires room { Room s shares.now }
-    requires row_len { (length row.old ≡ s.n) × (length low.old ≡ s.d) × (length high.old ≡ s.d) }
-    ensures { result ≡ looked s.t s.d (share_word s.t s.d shares.now) }
+fn count_balanced(shares: &Shares, row: &mut [u16], sums: &mut Halves) -> usize
+    requires { length row.old ≡ shares.now.shape.n }
+    ensures { result ≡ looked shares.now.shape.t shares.now.shape.d (share_word shares.now.shape.t shares.now.shape.d shares.now.words.now) }
 {
-    fill_weights(s.t, row);
-    let mut left = s.d;
-    let mut m = 0;
-    while m < s.t {
+    fill_weights(shares.shape.t, row);
+    let mut left = shares.shape.d;
+    for m in 0..shares.shape.t {
         if left == 0 {
             return 0; // the first word fails
         }
-        sum_row(s, shares, row, low, high);
-        left = passing(low, high, left);
+        sums.sum_row(shares, row);
+        left = sums.passing(left);
         raise(row);
-        m = m + 1;
     }
     left
 }
@@ -170,11 +170,9 @@ fn factorial(n: usize) -> u16
     requires { n ≤ 31 }
     ensures { result ≡ factorial_of n % prime }
 {
-    let mut result: u16 = 1;
-    let mut k = 0;
-    while k < n {
-        k = k + 1;
-        result = field::multiply(k as u16, result);
+    let mut result = 1;
+    for k in 0..n {
+        result = field::multiply((k + 1) as u16, result);
     }
     result
 }
@@ -192,71 +190,42 @@ fn zero_weight(t: usize, n: usize, scale: u16, i: usize) -> u16
 }
 
 // The weights of a station's members for the value at 0.
+#[tactic(auto, using(lists::proofs::Loops::writes))]
 fn fill_zero_weights(t: usize, row: &mut [u16])
     requires { (1 ≤ t) × (t ≤ 15) × (length row.old ≡ size t) }
     ensures { row.new ≡ tab (size t) (zero_weight (size t)) }
 {
     let n = row.len();
     let scale = field::multiply(65520, factorial(n - 1));
-    let mut i = 0;
-    while i < n {
-        row[i] = zero_weight(t, n, scale, i);
-        i = i + 1;
-    }
-}
-
-// The sums of the first `left` words, stored.
-fn store_values(low: &[u32], high: &[u32], left: usize, secret: &mut [u16])
-    requires halves { Halves (length low.now) 31 low.now high.now }
-    requires left_in_bounds { (left ≤ length low.now) × (left ≤ length secret.old) }
-    ensures { secret.new ≡ sets secret.old 0 (tab left (sum_at low.now high.now)) }
-{
-    let mut k = 0;
-    while k < left {
-        secret[k] = field::join_halves(low[k], high[k]);
-        k = k + 1;
+    for (i, entry) in row.iter_mut().enumerate() {
+        *entry = zero_weight(t, n, scale, i);
     }
 }
 
 // The look, with room for a row and for the sums.
-fn look_by_rows(
-    s: Shape,
-    shares: &[u16],
-    row: &mut [u16],
-    low: &mut [u32],
-    high: &mut [u32],
-    secret: &mut [u16],
-) -> usize
-    requires room { Room s shares.now }
-    requires row_len { (length row.old ≡ s.n) × (length low.old ≡ s.d) × (length high.old ≡ s.d) × (length secret.old ≡ s.d) }
-    ensures value { result ≡ looked s.t s.d (share_word s.t s.d shares.now) }
-    ensures secret_after { secret.new ≡ with_values s.t result (share_word s.t s.d shares.now) secret.old }
+fn look_by_rows(shares: &Shares, row: &mut [u16], sums: &mut Halves, secret: &mut [u16]) -> usize
+    requires { (length row.old ≡ shares.now.shape.n) × (length secret.old ≡ shares.now.shape.d) }
+    ensures value { result ≡ looked shares.now.shape.t shares.now.shape.d (share_word shares.now.shape.t shares.now.shape.d shares.now.words.now) }
+    ensures secret_after { secret.new ≡ with_values shares.now.shape.t result (share_word shares.now.shape.t shares.now.shape.d shares.now.words.now) secret.old }
 {
-    let left = count_balanced(s, shares, row, low, high);
-    fill_zero_weights(s.t, row);
-    sum_row(s, shares, row, low, high);
-    store_values(low, high, left, secret);
+    let left = count_balanced(shares, row, sums);
+    fill_zero_weights(shares.shape.t, row);
+    sums.sum_row(shares, row);
+    sums.store_values(&mut secret[..left]);
     left
 }
 
 // The quick look at the share words of all n members: how many words pass it before one that does not. Their values at 0 are stored in front.
-pub fn look(s: Shape, shares: &[u16], secret: &mut [u16]) -> usize
-    requires room { Room s shares.now }
-    requires secret_len { length secret.old ≡ s.d }
-    ensures value { result ≡ looked s.t s.d (share_word s.t s.d shares.now) }
-    ensures secret_after { secret.new ≡ with_values s.t result (share_word s.t s.d shares.now) secret.old }
+pub fn look(shares: &Shares, secret: &mut [u16]) -> usize
+    requires { length secret.old ≡ shares.now.shape.d }
+    ensures value { result ≡ looked shares.now.shape.t shares.now.shape.d (share_word shares.now.shape.t shares.now.shape.d shares.now.words.now) }
+    ensures secret_after { secret.new ≡ with_values shares.now.shape.t result (share_word shares.now.shape.t shares.now.shape.d shares.now.words.now) secret.old }
 {
-    let n = s.n;
-    let d = s.d;
-    let mut row = [0u16; 31];
-    let mut low = [0u32; 64];
-    let mut high = [0u32; 64];
-    look_by_rows(
-        s,
-        shares,
-        &mut row[..n],
-        &mut low[..d],
-        &mut high[..d],
-        secret,
-    )
+    let n = shares.shape.n;
+    let mut row = [0; 31];
+    let mut sums = Halves {
+        low: [0; 64],
+        high: [0; 64],
+    };
+    look_by_rows(shares, &mut row[..n], &mut sums, secret)
 }
