@@ -1,6 +1,6 @@
 -- The inverse by squaring, as the code works it out.
 -- Assumes nothing.
-use Rattle.std.proofs.Common.{◌≡◌, ℕ, zero, suc, ◌+◌, ◌-◌, ◌*◌, ◌/◌, ◌%◌, ◌^◌, ◌≤◌, ◌<◌, sym, ap, arith}
+use Rattle.std.proofs.Common.{◌≡◌, ℕ, suc, ◌+◌, ◌-◌, ◌*◌, ◌/◌, ◌%◌, ◌^◌, ◌≤◌, ◌<◌, sym, arith}
 use native.Mathlib.Nat.{one-mul, mul-one, mul_assoc}
 use lib.Dec.{lit<}
 use Rattle.field.specs.Field.{prime, product, power, inverse}

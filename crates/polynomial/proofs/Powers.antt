@@ -1,6 +1,6 @@
 -- A sum of coefficients times powers of x is the polynomial's value at x; coefficients before others; and how the powers are made.
 -- Assumes nothing.
-use mathlib.Core.Path.{◌≡◌, sym, ap, ap₂, ◌∙◌, subst}
+use mathlib.Core.Path.{◌≡◌, sym, ap, ◌∙◌, subst}
 use mathlib.Core.List.{List, [], ◌∷◌, ◌++◌, append_assoc}
 use Prim.Native.Nat.{ℕ, zero, suc, ◌+◌, ◌-◌, ◌*◌, ◌%◌, ◌^◌, ◌≤◌, ◌<◌, suc-le-suc, zero-le}
 use native.Mathlib.Nat.{pow-suc, pow-zero, not-suc-le-zero, le_of_suc-le-suc}

@@ -1,6 +1,5 @@
 -- `field::inverse`: the result so far, times the power of `square` that is still to come, is the inverse; each turn takes one binary digit of p − 2.
 -- Assumes nothing.
-use Rattle.std.proofs.Common.{◌-◌}
 use Rattle.field.proofs.Squaring.{Turn}
 use Rattle.field.proofs.inverse.Given as goal
 
