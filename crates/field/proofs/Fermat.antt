@@ -7,7 +7,8 @@ use mathlib.Core.Path.{◌≡◌, refl, sym, ap, ap₂, ◌∙◌}
 use mathlib.Core.Logic.{◌⊎◌, inl, inr}
 use mathlib.Core.Bool.{true, not}
 use Prim.Native.Nat.{ℕ, zero, suc, ◌+◌, ◌*◌, ◌/◌, ◌%◌, ◌^◌, ◌≤◌, ◌<◌, zero-le, suc-le-suc}
-use native.Mathlib.Nat.{mul_assoc, mul_comm, mul-one, one-mul, pow-suc, pow-zero, mod-lt, div-add-mod, not-suc-le-zero, le_of_suc-le-suc, mul-mod_left, mul-le-mul_left, mul-zero, zero-mul, add-zero, pow-succ'}
+use native.Mathlib.Nat.{mul_assoc, mul_comm, mul-one, one-mul, pow-suc, pow-zero, mod-lt, div-add-mod, not-suc-le-zero}
+use native.Mathlib.Nat.{le_of_suc-le-suc, mul-mod_left, mul-le-mul_left, mul-zero, zero-mul, add-zero, pow-succ'}
 use native.Mathlib.Decide.{dec_le, ℕ_discrete}
 use native.Mathlib.Omega.{arith}
 use lib.Dec.{eqb, lit<}

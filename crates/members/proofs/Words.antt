@@ -19,7 +19,8 @@ use Rattle.lists.proofs.Checks.{within_high}
 use Rattle.lists.proofs.Count.{count_more, count-all}
 use Rattle.members.specs.Members.{is_threshold, size, has, set_of, is_set, card, adding, striking, first_of, common}
 use Rattle.members.specs.Internal.Lowest.{First}
-use Rattle.members.proofs.Masks.{has-set_of, set_of-lt, set_of-has, set_of_ext, same_members, has-zero, has_above, has-and, has-or, has-not, has-power, has_shift, has_below, has_lowest, ones-card, ones_and, suc_everyone, card_more}
+use Rattle.members.proofs.Masks.{has-set_of, set_of-lt, set_of-has, set_of_ext, same_members, has-zero, has_above, has-and, has-or}
+use Rattle.members.proofs.Masks.{has-not, has-power, has_shift, has_below, has_lowest, ones-card, ones_and, suc_everyone, card_more}
 
 -- ---- what the code computes
 

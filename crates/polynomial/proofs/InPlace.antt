@@ -103,8 +103,3 @@ end x n whole words j w h t ew =
 pub linear_last : (x n : ℕ) (whole words : List ℕ) (j w : ℕ) → n - 1 ≤ j → Multiplied x n whole words j → w ≡ sum (get_or words (n - 1) 0) 0 → set words (n - 1) w ≡ whole
 linear_last x n whole words j w h t ew =
     let e : n - 1 ≡ j = omega (arith, t.kept, t.inside) in rw e (end x n whole words j w (omega (arith, t.kept)) t (rw e at ew))
-
--- for the loops
-pub ruleset sloping = (slopes_first, slopes_next, slopes_last)
-
-pub ruleset multiplying = (linear_first, linear_next, linear_last)

@@ -129,8 +129,7 @@ pub interpolated_made : (xs ys differences coefficients : List ℕ) → length x
     → coefficients ≡ interpolated xs ys
 interpolated_made xs ys differences coefficients e d c = c ∙ ap (expanded xs) d ∙ sym (interpolated_yes xs ys e ∙ interpolate_is xs ys)
 
-pub ruleset dividing = (divided_next, divided_last)
-
+-- for the code
 pub ruleset expanding = (expanded-first, expanded_next, expanded_last)
 
 pub ruleset interpolating = (interpolated_no, interpolated_made)

@@ -60,7 +60,6 @@ fn add_eight(block: &[u16], powers: &[u16; 9], top: u64) -> u64
 }
 
 // Sixteen coefficients before others whose value is `rest`, with one reduction.
-#[tactic(auto, unfolding(crate::specs::Internal::Powers::sixteen))]
 fn by_sixteen(block: &[u16; 16], powers: &[u16; 9], rest: u16) -> u16
     ensures { result ≡ sixteen powers.now block.now rest }
 {
@@ -108,7 +107,7 @@ pub fn evaluate_by_powers(constant: u16, others: &[u16], powers: &[u16]) -> u16
 }
 
 // The slopes from point i to the points after it, in place of their values.
-#[tactic(auto, using(crate::proofs::InPlace::sloping))]
+#[tactic(auto, using(crate::proofs::InPlace::slopes_first))]
 fn slopes(points: &[u16], values: &mut [u16], i: usize)
     requires { (length values.old ≡ length points.now) × (i < length points.now) }
     ensures { values.new ≡ slopes_from points.now values.old i }
@@ -122,7 +121,6 @@ fn slopes(points: &[u16], values: &mut [u16], i: usize)
 }
 
 // Newton's divided differences, in place of the values.
-#[tactic(auto, using(crate::proofs::Newton::dividing))]
 fn divide(points: &[u16], values: &mut [u16])
     requires { length values.old ≡ length points.now }
     ensures { values.new ≡ divided points.now values.old }
@@ -133,7 +131,7 @@ fn divide(points: &[u16], values: &mut [u16])
 }
 
 // c + (X − x) · f, in place of c and f, which stand from place i on.
-#[tactic(auto, using(crate::proofs::InPlace::multiplying))]
+#[tactic(auto, using(crate::proofs::InPlace::linear_first))]
 fn linear(x: u16, words: &mut [u16], i: usize)
     requires { i < length words.old }
     ensures { words.new ≡ linear_from x words.old i }
