@@ -1,6 +1,6 @@
 -- Laws of decimal digits as they are printed: the last one apart, and how many there are.
 -- Assumes nothing.
-use mathlib.Core.Path.{◌≡◌, refl, sym, ap, ◌∙◌}
+use mathlib.Core.Path.{◌≡◌, sym, ap, ◌∙◌}
 use mathlib.Core.Logic.{◌⊎◌, inl, inr}
 use mathlib.Core.Bool.{Bool, true, false}
 use mathlib.Core.List.{List, [], ◌∷◌, ◌++◌}
@@ -79,9 +79,6 @@ pub record Left (n at : ℕ) (before output : List ℕ) (i rest : ℕ) : Type 0 
   pub inside : i ≤ length before
   pub long : length output ≡ length before
   pub stores : sets output at (digits 10 rest) ≡ sets before at (digits 10 n)
-
-pub left-first : (n at i : ℕ) (before : List ℕ) → n < 4294967296 → i ≡ at + length (digits 10 n) → i ≤ length before → Left n at before before i n
-left-first n at i before small p h = record { fits = small; place = p; inside = h; long = refl; stores = refl }
 
 module _ {n at : ℕ} {before output : List ℕ} {i rest : ℕ} (l : Left n at before output i rest) where
   -- a digit is left, and has room

@@ -2,13 +2,13 @@
 -- Assumes nothing.
 use mathlib.Core.Path.{◌≡◌, refl, sym, ap, ◌∙◌}
 use mathlib.Core.Logic.{◌⊎◌, inl, inr}
-use mathlib.Core.Bool.{Bool, true, false, cond, not}
+use mathlib.Core.Bool.{Bool, true, false, cond}
 use mathlib.Core.Option.{Option, none, some}
 use mathlib.Core.List.{List, [], ◌∷◌, ◌++◌, append_assoc, append-nil}
 use Prim.Native.Nat.{ℕ, suc, ◌+◌, ◌-◌, ◌≤◌, ◌<◌}
 use native.Mathlib.Numerals.{add-one}
 use native.Mathlib.Omega.{arith}
-use borrow.Author.Tests.{eq-eqb, ne_eqb, not-true, not-false}
+use borrow.Author.Tests.{eq-eqb, ne_eqb}
 use lib.Dec.{eqb, eqb-zero-suc, eqb-suc-zero, eqb-suc-suc}
 use lib.ListN.{length, get_or, take, set, length-set}
 use lib.Seq.{take_all, take-suc-set}
@@ -190,11 +190,3 @@ module _ (letter k : ℕ) (line head : List ℕ) (fields : List (List ℕ)) (e :
   pub line_fields : length head ≡ 1 → get_or head 0 0 ≡ letter → line_of letter k line ≡ numbers_in k fields
   unfolding line_of numbers_of is_letter numbers_in
   line_fields one same = rw (e, eq-eqb (length head) 1 one, eq-eqb (get_or head 0 0) letter same)
-
--- a line's numbers, as the code has them in a slice of the right length
-module _ (letter k : ℕ) (line out ns : List ℕ) (b : Bool) (e : length out ≡ k) (h : line_of letter (length out) line ≡ cond b (some ns) none) where
-  pub line_none : not b ≡ true → line_of letter k line ≡ none
-  line_none q = ap (λ (j : ℕ). line_of letter j line) (sym e) ∙ h ∙ ap (λ (c : Bool). cond c (some ns) none) (not-true b q)
-
-  pub line_some : not b ≡ false → line_of letter k line ≡ some ns
-  line_some q = ap (λ (j : ℕ). line_of letter j line) (sym e) ∙ h ∙ ap (λ (c : Bool). cond c (some ns) none) (not-false b q)

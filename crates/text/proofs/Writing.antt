@@ -1,11 +1,11 @@
 -- Laws of bytes written into a buffer.
 -- Assumes nothing.
 use mathlib.Core.Path.{◌≡◌, refl, sym, ap, ap₂, ◌∙◌, subst}
-use mathlib.Core.List.{List, [], ◌∷◌, ◌++◌, append_assoc}
-use Prim.Native.Nat.{ℕ, ◌+◌, ◌≤◌, ◌<◌}
+use mathlib.Core.List.{List, [], ◌++◌, append_assoc}
+use Prim.Native.Nat.{ℕ, ◌+◌, ◌≤◌}
 use native.Mathlib.Nat.{add-zero}
 use native.Mathlib.Omega.{arith}
-use lib.ListN.{length, set, take, drop, length-append}
+use lib.ListN.{length, take, drop, length-append}
 use lib.Seq.{sets, sets-eq, length-sets, drop-drop}
 use borrow.Rule.Slice.PartMut.{put_mid}
 use Rattle.lists.proofs.Stores.{sets-append}
@@ -18,10 +18,6 @@ written_at l bytes m at end e n h = record { stored = e; next = n; fits = h; lon
 -- nothing is written
 pub written_none : (l : List ℕ) (at : ℕ) → at ≤ length l → Written l at [] l at
 written_none l at h = written_at l [] l at at refl (sym (add-zero at)) h
-
--- one byte
-pub written_one : (l : List ℕ) (at b : ℕ) → at < length l → Written l at (b ∷ []) (set l at b) (at + 1)
-written_one l at b h = written_at l (b ∷ []) (set l at b) at (at + 1) refl refl (omega arith)
 
 pub written-length : {l bytes m : List ℕ} {at end : ℕ} → Written l at bytes m end → length m ≡ length l
 written-length w = w.long

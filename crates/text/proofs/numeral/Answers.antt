@@ -2,7 +2,7 @@
 -- Assumes nothing.
 use Rattle.std.proofs.Common.{◌≡◌, ◌<◌, true, false, arith, rules, length, get_or, ◌∙◌}
 use Rattle.text.specs.Lines.{is_digit}
-use Rattle.text.proofs.Numerals.{numeral_short, numeral_long, numeral_zero, numeral_bad, valued_none, valued_next, valued_small, valued_last}
+use Rattle.text.proofs.Numerals.{numeral_short, numeral_long, numeral_zero, numeral_bad, valued_none, valued_next, valued_last}
 use Rattle.text.proofs.numeral.Goals as goal
 use Rattle.text.proofs.numeral.Goals.{else-field-gt1-via-then-field-gt1+else-field-eq48, else-field-gt1-via-else-field-gt1}
 
@@ -22,12 +22,6 @@ pub returns-then-not-is_ascii_digit : goal.returns-then-not-is_ascii_digit
 returns-then-not-is_ascii_digit c =
     let other : is_digit (get_or c.args.field.now c.loop-b.b-index 0) ≡ false = search rules in
     numeral_bad c.args.field.now c.loop-b.b-index (omega arith) other
-
-pub overflow_mul-value : goal.overflow_mul-value
-overflow_mul-value c = omega (arith, valued_small c.loop-b.invariant (omega arith))
-
-pub overflow_add-value : goal.overflow_add-value
-overflow_add-value c = omega (arith, valued_small c.loop-b.invariant (omega arith))
 
 pub loop-b-preserved : goal.loop-b-preserved
 loop-b-preserved c =
