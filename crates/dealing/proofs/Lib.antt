@@ -1,5 +1,6 @@
 -- What is proved of this crate.
 pub mod Examples
+pub mod Filling
 pub mod Laws
 pub mod Places
 pub mod Refusals

@@ -1,13 +1,14 @@
--- The steps of dealing in place, for the contracts of the functions that take them.
+-- The steps of dealing, for the contracts of the functions that take them.
 -- Assumes nothing.
-use Rattle.std.specs.Prelude.{ℕ, ◌+◌, ◌*◌, ◌<◌, ◌≡◌, List, [], ◌∷◌, length, get_or}
+use Rattle.std.specs.Prelude.{ℕ, ◌+◌, ◌*◌, ◌<◌, ◌≡◌, List, [], ◌∷◌, length}
 use Rattle.lists.specs.Tabulate.{tab, concat}
 use Rattle.polynomial.specs.Polynomial.{value}
 use Rattle.mac.specs.Tag.{tag}
-use Rattle.members.specs.Members.{size}
+use Rattle.members.specs.Members.{size, own_points}
 use Rattle.shares.specs.Layout.{tagged}
+use Rattle.shares.specs.Internal.Shape.{Station}
 use Rattle.shares.specs.declared.Shape.{Shape}
-use Rattle.dealing.specs.Dealing.{random_length, polynomial, dealt_α, dealt_β}
+use Rattle.dealing.specs.Dealing.{random_length, polynomial, dealt_α, dealt_β, dealt_shares, deal}
 
 -- as many secret and random words as a dealing of this shape takes
 pub record Supplied (s : Shape) (secret random : List ℕ) : Type 0 where
@@ -30,16 +31,14 @@ tag_of t d day random i words j = tag (dealt_α t d random j i) (dealt_β t d ra
 unfoldable pub tags_of : ℕ → ℕ → ℕ → List ℕ → ℕ → List ℕ → List ℕ
 tags_of t d day random i words = tab (size t) (tag_of t d day random i words)
 
--- place j has α or β of key(j,i), and place j has tag(i,j)
-pub record Keys (s : Shape) (random : List ℕ) (i : ℕ) (alphas betas : List ℕ) : Type 0 where
-  pub alphas_long : length alphas ≡ 32
-  pub betas_long : length betas ≡ 32
-  pub α_of : (j : ℕ) → j < s.n → get_or alphas j 0 ≡ dealt_α s.t s.d random j i
-  pub β_of : (j : ℕ) → j < s.n → get_or betas j 0 ≡ dealt_β s.t s.d random j i
-
-pub record Tags (s : Shape) (day : ℕ) (random : List ℕ) (i : ℕ) (words tags : List ℕ) : Type 0 where
-  pub tag_of_place : (j : ℕ) → j < s.n → get_or tags j 0 ≡ tag_of s.t s.d day random i words j
-
 -- key(i,1) .. key(i,n)
 unfoldable pub keys_of : ℕ → ℕ → List ℕ → ℕ → List ℕ
 keys_of t d random i = concat (tab (size t) (λ j. dealt_α t d random i j ∷ dealt_β t d random i j ∷ []))
+
+-- an input that is dealt, of this shape
+pub record Accepted (t day : ℕ) (secret random buffer : List ℕ) (s : Shape) : Type 0 where
+  pub threshold : s.t ≡ t
+  pub station : Station s
+  pub supplied : Supplied s secret random
+  pub room : length buffer ≡ s.n * s.width
+  pub dealt : deal t day secret random buffer ≡ record { number = 0; shares = dealt_shares (own_points t) t day secret random }
