@@ -9,16 +9,15 @@ use borrow.Rule.Slice.PartMut.{put_mid}
 use Rattle.lists.specs.Tabulate.{tab, concat}
 use Rattle.lists.proofs.Tabulate.{get_or-tab, tab_ext}
 use Rattle.lists.proofs.Blocks.{concat_more}
-use Rattle.lists.proofs.Loops.{tab_none, written_next, written_last}
 use Rattle.field.specs.Field.{sum, product}
 use Rattle.polynomial.specs.Polynomial.{value}
 use Rattle.polynomial.proofs.Evaluation.{value-cons}
 use Rattle.mac.specs.Tag.{tag}
 use Rattle.members.specs.Members.{size}
 use Rattle.shares.specs.Layout.{width, assembled}
-use Rattle.shares.specs.Internal.Shape.{Station}
 use Rattle.shares.specs.declared.Shape.{Shape}
 use Rattle.shares.proofs.Places.{row_inside}
+use Rattle.shares.proofs.Shapes.{station}
 use Rattle.dealing.specs.Dealing.{random_length, dealt_α, dealt_β, dealt_words, dealt_tag, dealt_share}
 use Rattle.dealing.specs.Internal.Steps.{Supplied, KeyAt, words_at, tag_of, tags_of, keys_of}
 use Rattle.dealing.proofs.Laws.{length-share}
@@ -28,8 +27,8 @@ use Rattle.dealing.proofs.Places.{α_there, β_there}
 pub horner : (a : ℕ) (others : List ℕ) (x : ℕ) → value (a ∷ others) x ≡ sum a (product x (value others x))
 horner a others x = value-cons a others x
 
--- for the keys: the loop's laws, and what stands at a key's place
-pub ruleset keys = (tab_none, written_next, written_last, α_there, β_there)
+-- what stands at the place of a key
+pub ruleset keys = (α_there, β_there)
 
 -- the pair of words at an even distance from a place
 abbrev pair : List ℕ → ℕ → ℕ → List ℕ
@@ -58,13 +57,13 @@ unfolding tab concat
 pairs l from zero h = refl
 pairs l from (suc n) h = pair_more l from n h (pairs l (from + 2) n (omega arith))
 
-module _ (s : Shape) (secret random : List ℕ) (i from : ℕ) (st : Station s) (given : Supplied s secret random) (h : i < s.n) (at : KeyAt s i 0 from) where
+module _ (s : Shape) (secret random : List ℕ) (i from : ℕ) (given : Supplied s secret random) (h : i < s.n) (at : KeyAt s i 0 from) where
   -- member i's keys are among the random words
   pub keys_inside : from + 2 * s.n ≤ length random
   unfolding random_length
   keys_inside =
-      let row : i * size s.t + size s.t ≤ size s.t * size s.t = row_inside i (size s.t) (size s.t) (omega (arith, st.members)) in
-      omega (arith, at.stands, row, given.random_long, st.members)
+      let row : i * size s.t + size s.t ≤ size s.t * size s.t = row_inside i (size s.t) (size s.t) (omega (arith, s.members)) in
+      omega (arith, at.stands, row, given.random_long, s.members)
 
   -- and stand there one after the other
   pub keys_stand : (m : ℕ) → m ≡ 2 * s.n → take m (drop from random) ≡ keys_of s.t s.d random i
@@ -72,7 +71,7 @@ module _ (s : Shape) (secret random : List ℕ) (i from : ℕ) (st : Station s) 
   keys_stand m e =
       ap (λ (k : ℕ). take k (drop from random)) e
       ∙ sym (pairs random from s.n keys_inside)
-      ∙ ap (λ (m : ℕ). concat (tab m (pair random from))) st.members
+      ∙ ap (λ (m : ℕ). concat (tab m (pair random from))) s.members
       ∙ ap concat
       (tab_ext (size s.t) (pair random from) (λ j. dealt_α s.t s.d random i j ∷ dealt_β s.t s.d random i j ∷ [])
       (λ j b. ap (λ (p : ℕ). get_or random p 0 ∷ get_or random (p + 1) 0 ∷ []) {y = s.t * s.d + 2 * (i * size s.t + j)} (omega (arith, at.stands))))
@@ -89,17 +88,17 @@ gathered : (l : List ℕ) (n : ℕ) (f : ℕ → ℕ) → take n l ≡ tab n f �
 gathered l n f e j h = sym (get_or-take n l j 0 h) ∙ ap (λ (r : List ℕ). get_or r j 0) e ∙ get_or-tab n f j 0 h
 
 -- the tags under the keys that are gathered
-pub tags_made : (s : Shape) (day i : ℕ) (random words alphas betas made : List ℕ) → Station s
+pub tags_made : (s : Shape) (day i : ℕ) (random words alphas betas made : List ℕ)
     → take s.n alphas ≡ tab s.n (λ k. dealt_α s.t s.d random k i) → take s.n betas ≡ tab s.n (λ k. dealt_β s.t s.d random k i)
     → made ≡ tab 32 (λ j. tag (get_or alphas j 0) (get_or betas j 0) (day ∷ words)) → take s.n made ≡ tags_of s.t s.d day random i words
 unfolding tags_of tag_of
-tags_made s day i random words alphas betas made st a b e =
+tags_made s day i random words alphas betas made a b e =
     let under : ℕ → ℕ = λ j. tag (get_or alphas j 0) (get_or betas j 0) (day ∷ words) in
     ap (λ (l : List ℕ). take s.n l) e
-    ∙ take_tab s.n 32 under (omega (arith, st.few))
+    ∙ take_tab s.n 32 under (omega (arith, (station s).few))
     ∙ tab_ext s.n under (λ j. tag_of s.t s.d day random i words j)
     (λ j h. ap₂ (λ (α β : ℕ). tag α β (day ∷ words)) (gathered alphas s.n _ a j h) (gathered betas s.n _ b j h))
-    ∙ ap (λ (n : ℕ). tab n (λ j. tag_of s.t s.d day random i words j)) st.members
+    ∙ ap (λ (n : ℕ). tab n (λ j. tag_of s.t s.d day random i words j)) s.members
 
 -- a share from its parts
 pub share_built : (xs : List ℕ) (t d day i : ℕ) (secret random words tags keys : List ℕ) → length secret ≡ d
@@ -128,7 +127,7 @@ shares_done f w n i m l long ei en all =
     sym (take_all (i * w) l (omega (arith, long ∙ ap (λ (k : ℕ). k * w) (sym ei)))) ∙ all ∙ ap (λ (k : ℕ). concat (tab k f)) (ei ∙ en)
 
 -- as long as the shape says
-pub share_long : (s : Shape) (xs : List ℕ) (day i : ℕ) (secret random : List ℕ) → Station s → Supplied s secret random
+pub share_long : (s : Shape) (xs : List ℕ) (day i : ℕ) (secret random : List ℕ) → Supplied s secret random
     → length (dealt_share xs s.t day secret random i) ≡ s.width
-share_long s xs day i secret random st given =
-    length-share xs s.t day secret random i ∙ ap (width s.t) given.secret_long ∙ sym st.share
+share_long s xs day i secret random given =
+    length-share xs s.t day secret random i ∙ ap (width s.t) given.secret_long ∙ sym s.share

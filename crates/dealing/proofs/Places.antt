@@ -7,9 +7,9 @@ use native.Mathlib.Nat.{mul-le-mul, mul-le-mul_left, mul-suc}
 use native.Mathlib.Omega.{arith}
 use lib.ListN.{get_or}
 use Rattle.members.specs.Members.{size}
-use Rattle.shares.specs.Internal.Shape.{InRange, Station}
 use Rattle.shares.specs.declared.Shape.{Shape}
 use Rattle.shares.proofs.Places.{row_inside}
+use Rattle.shares.proofs.Shapes.{station}
 use Rattle.dealing.specs.Dealing.{random_length, dealt_α, dealt_β}
 use Rattle.dealing.specs.Internal.Steps.{KeyAt}
 
@@ -18,20 +18,20 @@ pub coefficients_inside : (t d k count : ℕ) → count ≡ random_length t d �
 unfolding random_length
 coefficients_inside t d k count e h = let m : t * suc k ≤ t * d = mul-le-mul_left t h in omega (arith, m, mul-suc t k, e)
 
-pub coefficients_le : (t d : ℕ) → InRange t d → t * d ≤ 960
-coefficients_le t d r = mul-le-mul {n₂ = 15} {m₂ = 64} r.t_high r.d_high
+module _ (s : Shape) where
+  pub coefficients_le : s.t * s.d ≤ 960
+  coefficients_le = mul-le-mul {n₂ = 15} {m₂ = 64} s.t_high s.d_high
 
-module _ (s : Shape) (st : Station s) where
   pub row_le : (i : ℕ) → i ≤ s.n → i * s.n ≤ 961
-  row_le i p = mul-le-mul {n₂ = 31} {m₂ = 31} (omega (arith, st.few)) st.few
+  row_le i p = mul-le-mul {n₂ = 31} {m₂ = 31} (omega (arith, (station s).few)) (station s).few
 
   -- key(i,j) stands where the code looks, among the random words
   pub key_at : (i j : ℕ) → i < s.n → j < s.n → KeyAt s i j (s.t * s.d + 2 * (i * s.n + j))
   unfolding random_length
   key_at i j p q =
-      let all : s.n * s.n ≡ size s.t * size s.t = ap₂ ◌*◌ st.members st.members in
+      let all : s.n * s.n ≡ size s.t * size s.t = ap₂ ◌*◌ s.members s.members in
       record {
-        stands = ap (λ (n : ℕ). s.t * s.d + 2 * (i * n + j)) st.members;
+        stands = ap (λ (n : ℕ). s.t * s.d + 2 * (i * n + j)) s.members;
         inside = omega (arith, row_inside i s.n s.n p);
       }
 

@@ -1,6 +1,6 @@
 -- Dealing by its checks: the first that fails refuses and leaves the buffer, and where all pass the shares are dealt.
 -- Assumes nothing.
-use mathlib.Core.Path.{◌≡◌, refl, sym, ap, subst, ◌∙◌}
+use mathlib.Core.Path.{◌≡◌, refl, sym, ap, ap₂, ◌∙◌}
 use mathlib.Core.Bool.{true, false}
 use mathlib.Core.List.{List}
 use Prim.Native.Nat.{ℕ, ◌+◌, ◌*◌, ◌≤◌, zero-le}
@@ -14,12 +14,11 @@ use Rattle.lists.proofs.Every.{Every}
 use Rattle.field.specs.Field.{is_field_word}
 use Rattle.members.specs.Members.{is_threshold, size, own_points}
 use Rattle.shares.specs.Layout.{is_length, is_day, width}
-use Rattle.shares.specs.Internal.Shape.{shape_of, Station}
 use Rattle.shares.specs.declared.Shape.{Shape}
-use Rattle.shares.proofs.Shapes.{in_range, station_of}
+use Rattle.shares.proofs.Shapes.{station}
 use Rattle.dealing.proofs.Places.{coefficients_le, row_le}
 use Rattle.dealing.specs.Dealing.{random_length, dealt_shares, Dealt, checks, deal}
-use Rattle.dealing.specs.Internal.Steps.{Supplied, Accepted}
+use Rattle.dealing.specs.Internal.Steps.{Accepted}
 
 -- a refusal leaves the buffer
 abbrev pub refusal : List ℕ → ℕ → Dealt
@@ -71,40 +70,36 @@ module _ (t day : ℕ) (secret random buffer : List ℕ) where
               unfolding deal
               dealt e₆ shares es = rw (e₁, e₂, e, t₃, t₄, e₅, e₆, es)
 
-  -- what the checks of t and d show of the shape: it is a station, its numbers are small, and it has the lengths of the definition
-  module _ (s : Shape) (e₁ : is_threshold t ≡ true) (e₂ : is_length (length secret) ≡ true) (e : s ≡ shape_of t (length secret)) where
-    pub is_station : Station s
-    is_station = station_of t (length secret) s (in_range t (length secret) e₁ e₂) e
-
+  -- the shape's numbers are small, and it has the lengths of the definition
+  module _ (s : Shape) (et : s.t ≡ t) (ed : s.d ≡ length secret) where
     pub few_coefficients : t * length secret ≤ 960
-    few_coefficients = coefficients_le t (length secret) (in_range t (length secret) e₁ e₂)
+    few_coefficients = rw (sym et, sym ed) (coefficients_le s)
 
     pub few_keys : s.n * s.n ≤ 961
-    few_keys = row_le s is_station s.n (le_refl s.n)
+    few_keys = row_le s s.n (le_refl s.n)
 
     pub few_words : s.n * s.width ≤ 4867
-    few_words = is_station.all_fit
+    few_words = (station s).all_fit
 
-  module _ (s : Shape) (e : s ≡ shape_of t (length secret)) where
     pub random_is : t * length secret + 2 * (s.n * s.n) ≡ random_length t (length secret)
     unfolding random_length
-    random_is = ap (λ (x : Shape). t * length secret + 2 * (x.n * x.n)) e
+    random_is = ap (λ (n : ℕ). t * length secret + 2 * (n * n)) (s.members ∙ ap size et)
 
     pub buffer_is : s.n * s.width ≡ size t * width t (length secret)
-    buffer_is = ap (λ (x : Shape). x.n * x.width) e
+    buffer_is = ap₂ ◌*◌ (s.members ∙ ap size et) (s.share ∙ ap₂ width et ed)
 
   -- all checks have passed
-  pub accepted : (s : Shape) → is_threshold t ≡ true → is_length (length secret) ≡ true → is_day day ≡ true → s ≡ shape_of t (length secret)
+  pub accepted : (s : Shape) → is_threshold t ≡ true → is_length (length secret) ≡ true → is_day day ≡ true → s.t ≡ t → s.d ≡ length secret
       → length random ≡ t * length secret + 2 * (s.n * s.n) → length buffer ≡ s.n * s.width
       → each is_field_word secret ≡ true → each is_field_word random ≡ true → Accepted t day secret random buffer s
-  accepted s e₁ e₂ e es e₃ e₄ e₅ e₆ =
-      let random_long : length random ≡ random_length t (length secret) = e₃ ∙ random_is s es in
+  accepted s e₁ e₂ e et ed e₃ e₄ e₅ e₆ =
+      let random_long : length random ≡ random_length t (length secret) = e₃ ∙ random_is s et ed in
       record {
-        threshold = ap (λ (x : Shape). x.t) es;
-        station = is_station s e₁ e₂ es;
-        supplied = subst (λ (x : Shape). Supplied x secret random) (sym es) (record { secret_long = refl; random_long = random_long });
+        threshold = et;
+        station = station s;
+        supplied = record { secret_long = sym ed; random_long = random_long ∙ ap₂ random_length (sym et) (sym ed) };
         room = e₄;
-        dealt = sym (dealt e₁ e₂ e random_long (e₄ ∙ buffer_is s es) e₅ e₆ (dealt_shares (own_points t) t day secret random) refl);
+        dealt = sym (dealt e₁ e₂ e random_long (e₄ ∙ buffer_is s et ed) e₅ e₆ (dealt_shares (own_points t) t day secret random) refl);
       }
 
   -- the answer's number fits a word
@@ -122,4 +117,4 @@ module _ (t day : ℕ) (secret random buffer : List ℕ) where
       (record { number = 0; shares = dealt_shares (own_points t) t day secret random }) h
 
 -- for the checks as the code makes them
-pub ruleset by_check = (refused_1, refused_2, refused_32, refused_3, refused_4, refused_5, refused_6, is_station, few_coefficients, few_keys, few_words, random_is, buffer_is)
+pub ruleset by_check = (refused_1, refused_2, refused_32, refused_3, refused_4, refused_5, refused_6, few_coefficients, few_keys, few_words, random_is, buffer_is)

@@ -12,7 +12,7 @@ ghost use Rattle.dealing.specs.Internal.Steps.{Supplied, KeyAt, Accepted, words_
 ghost use Rattle.dealing.specs.Answer.{answer_of};
 
 use refusals::Refusal;
-use shares::Shape;
+use shares::{Key, Shape};
 
 // The polynomial with this constant coefficient and the others, at x.
 #[tactic(auto, using(crate::proofs::Filling::horner))]
@@ -77,14 +77,28 @@ impl Supply<'_> {
         self.shape.t * self.shape.d + 2 * (i * self.shape.n + j)
     }
 
+    // key(i,j)
+    #[tactic(auto, using(crate::proofs::Filling::keys))]
+    fn key(&self, i: usize, j: usize) -> Key
+        requires { (i < self.now.shape.n) × (j < self.now.shape.n) }
+        ensures alpha { result.alpha ≡ dealt_α self.now.shape.t self.now.shape.d self.now.random.now i j }
+        ensures beta { result.beta ≡ dealt_β self.now.shape.t self.now.shape.d self.now.random.now i j }
+    {
+        let at = self.key_place(i, j);
+        Key {
+            alpha: self.random[at],
+            beta: self.random[at + 1],
+        }
+    }
+
     // tag(i,j) of the day and member i's share words.
-    #[tactic(auto, using(crate::proofs::Filling::keys), unfolding(crate::specs::Internal::Steps::tag_of))]
+    #[tactic(auto, unfolding(crate::specs::Internal::Steps::tag_of))]
     fn tag(&self, i: usize, j: usize, words: &[u16]) -> u16
         requires { (i < self.now.shape.n) × (j < self.now.shape.n) }
         ensures { result ≡ tag_of self.now.shape.t self.now.shape.d self.now.day self.now.random.now i words.now j }
     {
-        let key = self.key_place(j, i);
-        mac::tag_with_first(self.random[key], self.random[key + 1], self.day, words)
+        let key = self.key(j, i);
+        mac::tag_with_first(key.alpha, key.beta, self.day, words)
     }
 
     // Member i's tags of the day and its share words, one after the other.
@@ -99,16 +113,16 @@ impl Supply<'_> {
     }
 
     // Everybody's keys for member i: key(k,i) at place k.
-    #[tactic(auto, using(crate::proofs::Filling::keys))]
+    #[tactic(auto, using(lists::proofs::Loops::writes))]
     fn gather_keys(&self, i: usize, alphas: &mut [u16; 32], betas: &mut [u16; 32])
         requires { i < self.now.shape.n }
         ensures alphas_of { take self.now.shape.n alphas.new ≡ tab self.now.shape.n (λ k. dealt_α self.now.shape.t self.now.shape.d self.now.random.now k i) }
         ensures betas_of { take self.now.shape.n betas.new ≡ tab self.now.shape.n (λ k. dealt_β self.now.shape.t self.now.shape.d self.now.random.now k i) }
     {
         for k in 0..self.shape.n {
-            let key = self.key_place(k, i);
-            alphas[k] = self.random[key];
-            betas[k] = self.random[key + 1];
+            let key = self.key(k, i);
+            alphas[k] = key.alpha;
+            betas[k] = key.beta;
         }
     }
 
@@ -206,7 +220,7 @@ fn check(
     if !shares::is_day(day) {
         return Err(Refusal::BadDay);
     }
-    let s = shares::shape_of(t, d);
+    let s = Shape::new(t, d);
     if random.len() != t * d + 2 * (s.n * s.n) {
         return Err(Refusal::BadRandomLength);
     }

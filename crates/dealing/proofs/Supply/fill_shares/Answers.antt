@@ -16,11 +16,11 @@ loop-i-preserved c =
     let s = c.args.self.now in
     let inside : c.loop-i.i * s.shape.width + s.shape.width ≤ s.shape.n * s.shape.width = row_inside c.loop-i.i s.shape.n s.shape.width c.loop-i-test.true in
     shares_more _ s.shape.width c.loop-i.i _ c.loop-i.shares _ refl (omega arith)
-    (share_long s.shape c.args.points.now s.day c.loop-i.i s.secret.now s.random.now s.station s.supplied)
+    (share_long s.shape c.args.points.now s.day c.loop-i.i s.secret.now s.random.now s.supplied)
     c.loop-i.invariant c.fill_share.ensures
 
 pub returns : goal.returns
 unfolding dealt_shares
 returns c =
     let s = c.args.self.now in
-    shares_done _ s.shape.width s.shape.n c.loop-i.i _ c.loop-i.shares (omega arith) (omega arith) s.station.members c.loop-i.invariant
+    shares_done _ s.shape.width s.shape.n c.loop-i.i _ c.loop-i.shares (omega arith) (omega arith) s.shape.members c.loop-i.invariant

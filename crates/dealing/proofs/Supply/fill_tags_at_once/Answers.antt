@@ -8,4 +8,4 @@ pub returns : goal.returns
 returns c =
     let s = c.args.self.now in
     c.copy_from_slice.ensures.after
-    ∙ tags_made s.shape s.day c.args.i s.random.now c.args.words.now _ _ _ s.station c.gather_keys.ensures.alphas_of c.gather_keys.ensures.betas_of c.tags_with_first.ensures
+    ∙ tags_made s.shape s.day c.args.i s.random.now c.args.words.now _ _ _ c.gather_keys.ensures.alphas_of c.gather_keys.ensures.betas_of c.tags_with_first.ensures
