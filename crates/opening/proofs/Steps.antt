@@ -1,6 +1,6 @@
--- Laws of what one read comes to.
+-- Laws of one read, and of the bytes read so far.
 -- Assumes nothing.
-use Rattle.std.proofs.Common.{◌≡◌, sym, ap, subst, ◌∙◌, ℕ, zero, suc, min, ◌+◌, ◌-◌, ◌≤◌, Bool, true, false, List, ◌++◌, length, take, slice_range, arith, le_refl, drop_at, length-take-le}
+use Rattle.std.proofs.Common.{◌≡◌, sym, ap, subst, ◌∙◌, ℕ, min, ◌+◌, ◌-◌, ◌≤◌, List, ◌++◌, length, take, slice_range, arith, le_refl, drop_at, length-take-le}
 use Rattle.std.proofs.lemmas.Slice.{take-put_mid_below}
 use Rattle.std.specs.Prelude.{Option, Result, Ok, Err}
 use Rattle.std.specs.Io.{ReadsAtMost}
@@ -8,33 +8,17 @@ use Rattle.std.specs.Io.KnownBytes.{Consumes, ReadConsumes}
 use Rattle.std.proofs.KnownBytes.{Consumes-trans}
 use Rattle.std.specs.declared.io.Error.{Error}
 use borrow.Rule.Slice.PartMut.{put_mid, post_of}
-use mathlib.Core.Bool.{false≢true}
 use lib.Seq.{take-add, take-append-le}
-use Rattle.opening.specs.declared.Step.{Step}
-use Rattle.opening.specs.declared.Step.TheVariants.{Failed, End, More}
 use Rattle.opening.specs.Input.{step_of}
 
-is_more : Step → Bool
-is_more (Failed e) = false
-is_more End = false
-is_more (More n) = true
-
-counted : Step → ℕ
-counted (Failed e) = 0
-counted End = 0
-counted (More n) = n
-
-module _ (known left : Option (List ℕ)) (part : List ℕ) (room count : ℕ) (same : room ≡ length part) where
-  -- more bytes are at least one and have room, and they are what the reader gave
-  pub more_fit : (r : Result ℕ Error) → More count ≡ step_of r room → ReadsAtMost r part → ReadConsumes known left r part
-      → (1 ≤ count) × (count ≤ length part) × Consumes known left (take count part)
-  unfolding is_more counted
-  more_fit (Err e) h fits read = absurd (false≢true (sym (ap is_more h)))
-  more_fit (Ok zero) h fits read = absurd (false≢true (sym (ap is_more h)))
-  more_fit (Ok (suc k)) h fits read =
-      let m : count ≡ min (suc k) room = ap counted h in
-      let all : count ≡ suc k = omega (arith, m, same, fits.0) in
-      (omega arith, omega (arith, fits.0), subst (λ n. Consumes known left (take n part)) (sym all) read.0)
+-- the bytes that a read counts have room, and they are what the reader gave
+pub read_fits : (known left : Option (List ℕ)) (part : List ℕ) (room count : ℕ) → room ≡ length part → (r : Result ℕ Error) → step_of r room ≡ Ok count
+    → ReadsAtMost r part → ReadConsumes known left r part → (count ≤ length part) × Consumes known left (take count part)
+read_fits known left part room count same (Err e) h fits read = absurd cc
+read_fits known left part room count same (Ok k) h fits read =
+    let m : min k room ≡ count = cc in
+    let all : count ≡ k = omega (arith, m, same, fits.0) in
+    (omega (arith, fits.0), subst (λ n. Consumes known left (take n part)) (sym all) read.0)
 
 take_split : (a b : ℕ) (old new : List ℕ) → a ≤ b → take a new ≡ take a old → take a old ++ slice_range new a b ≡ take b new
 take_split a b old new h front =

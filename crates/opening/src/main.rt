@@ -6,37 +6,18 @@ ghost use Rattle.std.specs.Io.KnownBytes.{Appends};
 ghost use Rattle.report.specs.Report.{report};
 ghost use Rattle.opening.specs.Input.{Answers, Inside, IsFrom, IsQuiet, step_of};
 
-use std::io;
 use std::io::{Read, Write};
+use std::{fmt, io};
 
-// What one read comes to: it failed, the input has ended, or it put bytes at the start of its buffer.
-#[derive(Clone, Copy)]
-enum Step {
-    Failed(io::Error),
-    End,
-    More(usize),
-}
-
-// What a read into the buffer answered. A failed read is not the end of the input.
-fn judge(got: io::Result<usize>, buffer: &[u8]) -> Step
+// What a read into the buffer answered: that it failed, or how many bytes it read. A failed read is not the end of the input, and 0 bytes are.
+fn judge(got: io::Result<usize>, buffer: &[u8]) -> io::Result<usize>
     ensures { result ≡ step_of got (length buffer.now) }
 {
-    match got {
-        Err(error) => Step::Failed(error),
-        Ok(0) => Step::End,
-        Ok(count) => Step::More(count.min(buffer.len())),
-    }
+    Ok(got?.min(buffer.len()))
 }
 
-// How many bytes were read until the input ended or the buffer was full, or that a read failed.
-#[derive(Clone, Copy)]
-enum Input {
-    Bytes(usize),
-    Failed(io::Error),
-}
-
-// Reads until the input ends or the buffer is full.
-fn read_input<R: Read>(reader: &mut R, text: &mut [u8]) -> Input
+// Reads until the input ends or the buffer is full: how many bytes were read, or that a read failed.
+fn read_input<R: Read>(reader: &mut R, text: &mut [u8]) -> io::Result<usize>
     ensures inside { Inside result (length text.old) }
     ensures length { length text.new ≡ length text.old }
     ensures bytes { IsFrom (R.remaining reader.old) result text.new }
@@ -44,13 +25,12 @@ fn read_input<R: Read>(reader: &mut R, text: &mut [u8]) -> Input
     let mut n = 0;
     while n < text.len() {
         let got = reader.read(&mut text[n..]);
-        match judge(got, &text[n..]) {
-            Step::Failed(error) => return Input::Failed(error),
-            Step::End => return Input::Bytes(n),
-            Step::More(count) => n += count,
+        match judge(got, &text[n..])? {
+            0 => break,
+            count => n += count,
         }
     }
-    Input::Bytes(n)
+    Ok(n)
 }
 
 // Opens a text, and writes the answer.
@@ -62,11 +42,20 @@ fn print<W: Write>(writer: &mut W, text: &[u8]) -> io::Result<()>
     writer.write_all(&output[..n])
 }
 
-// Which of the two failed.
+// Which of the two failed, and why.
 #[derive(Clone, Copy)]
 enum Failure {
     Reading(io::Error),
     Writing(io::Error),
+}
+
+impl fmt::Display for Failure {
+    fn fmt<W: fmt::Write>(&self, f: &mut fmt::Formatter<W>) -> fmt::Result {
+        match self {
+            Failure::Reading(error) => write!(f, "standard input: {error}"),
+            Failure::Writing(error) => write!(f, "standard output: {error}"),
+        }
+    }
 }
 
 // Reads the input and prints its answer. A text of 40001 bytes is refused, so room for as many is enough.
@@ -74,18 +63,14 @@ fn run<R: Read, W: Write>(reader: &mut R, writer: &mut W, text: &mut [u8]) -> Re
     ensures answer { 40001 ≤ length text.old → Answers result (R.remaining reader.old) (W.contents writer.old) (W.contents writer.new) }
     ensures quiet { IsQuiet result (W.contents writer.old) (W.contents writer.new) }
 {
-    match read_input(reader, text) {
-        Input::Bytes(n) => print(writer, &text[..n]).map_err(Failure::Writing),
-        Input::Failed(error) => Err(Failure::Reading(error)),
-    }
+    let n = read_input(reader, text).map_err(Failure::Reading)?;
+    print(writer, &text[..n]).map_err(Failure::Writing)
 }
 
 // If a read or the write failed, standard error says so.
 fn main(rt: HostRuntime) {
     let mut text = [0u8; 40001];
-    let _ = match run(&mut rt.reader(), &mut io::writer(&rt), &mut text) {
-        Ok(()) => Ok(()),
-        Err(Failure::Reading(error)) => eprintln!(rt; "standard input: {error}"),
-        Err(Failure::Writing(error)) => eprintln!(rt; "standard output: {error}"),
-    };
+    if let Err(failure) = run(&mut rt.reader(), &mut io::writer(&rt), &mut text) {
+        let _ = eprintln!(rt; "{failure}");
+    }
 }
