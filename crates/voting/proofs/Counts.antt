@@ -8,6 +8,10 @@ use native.Mathlib.Omega.{arith}
 use lib.ListN.{length, length-append}
 use Rattle.lists.specs.Tabulate.{keep}
 use Rattle.lists.proofs.Choose.{keep_append}
+use Rattle.voting.specs.declared.Vote as code
+use Rattle.voting.specs.declared.Vote.TheVariants.{Accepted, Mismatched, Unread}
+use Rattle.voting.specs.declared.Pairs as code_pairs
+use Rattle.voting.specs.Answer.{vote_of, pairs_of}
 use Rattle.voting.specs.Votes.{Vote, accepted, mismatched, unread, is_of, Pairs, count_of, kinds}
 use Rattle.voting.specs.Internal.Counting.{together}
 
@@ -34,18 +38,18 @@ pub same_pairs : {p q : Pairs} → p.accepted ≡ q.accepted → p.mismatched �
 same_pairs a m u i = record { accepted = a i; mismatched = m i; unread = u i }
 
 -- one vote more of each kind
-module _ (p : Pairs) where
-  pub one_accepted : record { accepted = p.accepted + 1; mismatched = p.mismatched; unread = p.unread } ≡ together p (kinds (accepted ∷ []))
-  unfolding kinds count_of keep is_of
-  one_accepted = same_pairs refl (omega arith) (omega arith)
+module _ (p : code_pairs.Pairs) (v : code.Vote) where
+  pub one_accepted : v ≡ Accepted → pairs_of (record { accepted = p.accepted + 1; mismatched = p.mismatched; unread = p.unread }) ≡ together (pairs_of p) (kinds (vote_of v ∷ []))
+  unfolding vote_of kinds count_of keep is_of
+  one_accepted e = rw e (same_pairs refl (omega arith) (omega arith))
 
-  pub one_mismatched : record { accepted = p.accepted; mismatched = p.mismatched + 1; unread = p.unread } ≡ together p (kinds (mismatched ∷ []))
-  unfolding kinds count_of keep is_of
-  one_mismatched = same_pairs (omega arith) refl (omega arith)
+  pub one_mismatched : v ≡ Mismatched → pairs_of (record { accepted = p.accepted; mismatched = p.mismatched + 1; unread = p.unread }) ≡ together (pairs_of p) (kinds (vote_of v ∷ []))
+  unfolding vote_of kinds count_of keep is_of
+  one_mismatched e = rw e (same_pairs (omega arith) refl (omega arith))
 
-  pub one-unread : record { accepted = p.accepted; mismatched = p.mismatched; unread = p.unread + 1 } ≡ together p (kinds (unread ∷ []))
-  unfolding kinds count_of keep is_of
-  one-unread = same_pairs (omega arith) (omega arith) refl
+  pub one-unread : v ≡ Unread → pairs_of (record { accepted = p.accepted; mismatched = p.mismatched; unread = p.unread + 1 }) ≡ together (pairs_of p) (kinds (vote_of v ∷ []))
+  unfolding vote_of kinds count_of keep is_of
+  one-unread e = rw e (same_pairs (omega arith) (omega arith) refl)
 
 -- what is counted of two lists of votes
 count_of-append : (kind : Vote) (vs ws : List Vote) → count_of kind (vs ++ ws) ≡ count_of kind vs + count_of kind ws

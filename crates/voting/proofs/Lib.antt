@@ -2,6 +2,5 @@
 pub mod Counts
 pub mod Examples
 pub mod Meaning
-pub mod Places
 pub mod Rows
 pub mod Totals

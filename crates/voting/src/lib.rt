@@ -2,18 +2,16 @@
 // and how many there are of each kind.
 #![tactic(auto)]
 
-ghost use Rattle.std.specs.Prelude.{◌≡◌, true, cond, ◌&&◌, [], ◌∷◌, ◌+◌, ◌<◌, ◌≤◌, eqb, length, get_or, take, drop};
+ghost use Rattle.std.specs.Prelude.{◌≡◌, ℕ, true, cond, ◌&&◌, [], ◌∷◌, ◌+◌, ◌<◌, ◌≤◌, length, take};
 ghost use Rattle.lists.specs.Tabulate.{tab};
-ghost use Rattle.mac.specs.Tag.{tag};
 ghost use Rattle.members.specs.Members.{size, has, set_of, adding};
-ghost use Rattle.shares.specs.Layout.{capacity, tagged};
-ghost use Rattle.shares.specs.Internal.Shape.{Room};
+ghost use Rattle.shares.specs.Layout.{key_α, key_β};
 ghost use Rattle.voting.specs.Votes.{field_share, usable, tag_holds, accepted, vote as vote_by, is_of, accepts, vote_rows, no_pairs, kinds, pairs as pairs_by};
 ghost use Rattle.voting.specs.Answer.{vote_of, pairs_of};
-ghost use Rattle.voting.specs.Internal.Counting.{together};
-ghost use Rattle.voting.specs.Internal.Expected.{Keys, Expected, vote_against};
+ghost use Rattle.voting.specs.Internal.Counting.{together, Counts};
+ghost use Rattle.voting.specs.Internal.Expected.{Expected, vote_against};
 
-use shares::Shape;
+use shares::Shares;
 
 // How the test of one tag comes out.
 #[derive(Clone, Copy)]
@@ -31,109 +29,6 @@ pub struct Pairs {
     pub unread: u16,
 }
 
-// The votes on one member: those who accept it, and how many votes there are of each kind.
-#[derive(Clone, Copy)]
-pub struct Counted {
-    pub row: u32,
-    pub pairs: Pairs,
-}
-
-// The set, and member i if it is present and every word of its share is a field word.
-fn usable_member(s: Shape, present: u32, shares: &[u16], i: usize, set: u32) -> u32
-    requires room { Room s shares.now }
-    requires i_lt_n { i < s.n }
-    ensures { result ≡ cond (has present i && field_share s.t s.d shares.now i) (adding set i) set }
-{
-    if !members::has(present, i) {
-        return set;
-    }
-    let at = shares::share_at(s, i);
-    let end = at + s.width;
-    if !field::are_field_words(&shares[at..end]) {
-        return set;
-    }
-    members::with(set, i)
-}
-
-// The usable members.
-pub fn usable_members(s: Shape, present: u32, shares: &[u16]) -> u32
-    requires { Room s shares.now }
-    ensures { result ≡ usable s.t s.d present shares.now }
-{
-    let mut set: u32 = 0;
-    let mut i = 0;
-    while i < s.n {
-        set = usable_member(s, present, shares, i, set);
-        i = i + 1;
-    }
-    set
-}
-
-// Everybody's keys for member i: key(k,i) at place k.
-fn gather_keys(s: Shape, shares: &[u16], i: usize, alphas: &mut [u16], betas: &mut [u16])
-    requires room { Room s shares.now }
-    requires i_lt_n { i < s.n }
-    requires alphas_len { (length alphas.old ≡ 32) × (length betas.old ≡ 32) }
-    ensures { Keys s shares.now i alphas.new betas.new }
-{
-    let mut k = 0;
-    while k < s.n {
-        let key = shares::key_at(s, k, i);
-        alphas[k] = shares[key];
-        betas[k] = shares[key + 1];
-        k = k + 1;
-    }
-}
-
-// What tag(i,j) has to be, at place j: the tag of the day and i's share words under key(j,i).
-fn expect(s: Shape, day: u16, shares: &[u16], i: usize, tags: &mut [u16])
-    requires room { Room s shares.now }
-    requires i_lt_n { i < s.n }
-    requires tags_len { length tags.old ≡ 32 }
-    ensures { Expected s day shares.now i tags.new }
-{
-    let mut alphas = [0u16; 32];
-    let mut betas = [0u16; 32];
-    gather_keys(s, shares, i, &mut alphas, &mut betas);
-    let own = shares::words_at(s, i);
-    let end = own + s.d;
-    mac::tags_with_first(&alphas, &betas, day, &shares[own..end], tags);
-}
-
-// The same if member i is usable: else nobody looks.
-fn expect_usable(s: Shape, day: u16, able: u32, shares: &[u16], i: usize, tags: &mut [u16])
-    requires room { Room s shares.now }
-    requires i_lt_n { i < s.n }
-    requires tags_len { length tags.old ≡ 32 }
-    ensures { has able i ≡ true → Expected s day shares.now i tags.new }
-{
-    if !members::has(able, i) {
-        return;
-    }
-    expect(s, day, shares, i, tags);
-}
-
-// The word at `at` is the tag of the day and the d words from `own` on, under the key at `key`.
-fn is_tag(shares: &[u16], day: u16, d: usize, own: usize, key: usize, at: usize) -> bool
-    requires { (own + d ≤ length shares.now) × (key + 2 ≤ length shares.now) × (at + 1 ≤ length shares.now) × (length shares.now ≤ capacity) }
-    ensures { result ≡ eqb (get_or shares.now at 0) (tag (get_or shares.now key 0) (get_or shares.now (key + 1) 0) (tagged day (take d (drop own shares.now)))) }
-{
-    let expected = mac::tag_with_first(shares[key], shares[key + 1], day, &shares[own..own + d]);
-    shares[at] == expected
-}
-
-// tag(i,j) is that of the day and i's share words under key(j,i).
-fn tag_holds(s: Shape, day: u16, shares: &[u16], i: usize, j: usize) -> bool
-    requires room { Room s shares.now }
-    requires i_lt_n { (i < s.n) × (j < s.n) }
-    ensures { result ≡ tag_holds s.t s.d day shares.now i j }
-{
-    let own = shares::words_at(s, i);
-    let key = shares::key_at(s, j, i);
-    let at = shares::tag_at(s, i, j);
-    is_tag(shares, day, s.d, own, key, at)
-}
-
 // No votes of any kind.
 pub fn no_pairs() -> Pairs
     ensures { pairs_of result ≡ no_pairs }
@@ -145,24 +40,141 @@ pub fn no_pairs() -> Pairs
     }
 }
 
-// Two counts together.
-fn sum(a: Pairs, b: Pairs) -> Pairs
-    requires { (a.accepted + b.accepted ≤ 65535) × (a.mismatched + b.mismatched ≤ 65535) × (a.unread + b.unread ≤ 65535) }
-    ensures { pairs_of result ≡ together (pairs_of a) (pairs_of b) }
-{
-    Pairs {
-        accepted: a.accepted + b.accepted,
-        mismatched: a.mismatched + b.mismatched,
-        unread: a.unread + b.unread,
+impl Pairs {
+    // One vote more.
+    fn with(self, vote: Vote) -> Self
+        requires { (self.accepted < 65535) × (self.mismatched < 65535) × (self.unread < 65535) }
+        ensures { pairs_of result ≡ together (pairs_of self) (kinds (vote_of vote ∷ [])) }
+    {
+        match vote {
+            Vote::Accepted => Pairs {
+                accepted: self.accepted + 1,
+                ..self
+            },
+            Vote::Mismatched => Pairs {
+                mismatched: self.mismatched + 1,
+                ..self
+            },
+            Vote::Unread => Pairs {
+                unread: self.unread + 1,
+                ..self
+            },
+        }
+    }
+
+    // Two counts together.
+    fn and(self, other: Self) -> Self
+        requires { (self.accepted + other.accepted ≤ 65535) × (self.mismatched + other.mismatched ≤ 65535) × (self.unread + other.unread ≤ 65535) }
+        ensures { pairs_of result ≡ together (pairs_of self) (pairs_of other) }
+    {
+        Pairs {
+            accepted: self.accepted + other.accepted,
+            mismatched: self.mismatched + other.mismatched,
+            unread: self.unread + other.unread,
+        }
     }
 }
 
+// The votes on one member: those who accept it, and how many votes there are of each kind.
+#[derive(Clone, Copy)]
+pub struct Counted {
+    pub row: u32,
+    pub pairs: Pairs,
+}
+
+impl Counted {
+    // Member j's vote more.
+    #[tactic(auto, unfolding(crate::specs::Answer::vote_of, crate::specs::Votes::is_of))]
+    fn with(self, vote: Vote, j: usize) -> Self
+        requires { (self.pairs.accepted < 65535) × (self.pairs.mismatched < 65535) × (self.pairs.unread < 65535) }
+        ensures row_value { result.row ≡ cond (is_of accepted (vote_of vote)) (adding self.row j) self.row }
+        ensures pairs_value { pairs_of result.pairs ≡ together (pairs_of self.pairs) (kinds (vote_of vote ∷ [])) }
+    {
+        let pairs = self.pairs.with(vote);
+        match vote {
+            Vote::Accepted => Counted {
+                row: members::with(self.row, j),
+                pairs,
+            },
+            Vote::Mismatched | Vote::Unread => Counted {
+                row: self.row,
+                pairs,
+            },
+        }
+    }
+}
+
+// Member i is present, and every word of its share is a field word.
+fn is_usable(shares: &Shares, present: u32, i: usize) -> bool
+    requires { i < shares.now.shape.n }
+    ensures { result ≡ (has present i && field_share shares.now.shape.t shares.now.shape.d shares.now.words.now i) }
+{
+    members::has(present, i) && field::are_field_words(shares.share(i))
+}
+
+// The usable members.
+pub fn usable_members(shares: &Shares, present: u32) -> u32
+    ensures { result ≡ usable shares.now.shape.t shares.now.shape.d present shares.now.words.now }
+{
+    let mut set: u32 = 0;
+    for i in 0..shares.shape.n {
+        if is_usable(shares, present, i) {
+            set = members::with(set, i);
+        }
+    }
+    set
+}
+
+// Everybody's keys for member i: key(k,i) at place k.
+fn gather_keys(shares: &Shares, i: usize, alphas: &mut [u16; 32], betas: &mut [u16; 32])
+    requires { i < shares.now.shape.n }
+    ensures alphas_value { take shares.now.shape.n alphas.new ≡ tab shares.now.shape.n (λ k. key_α shares.now.shape.t shares.now.shape.d shares.now.words.now k i) }
+    ensures betas_value { take shares.now.shape.n betas.new ≡ tab shares.now.shape.n (λ k. key_β shares.now.shape.t shares.now.shape.d shares.now.words.now k i) }
+{
+    for k in 0..shares.shape.n {
+        let key = shares.key(k, i);
+        alphas[k] = key.alpha;
+        betas[k] = key.beta;
+    }
+}
+
+// What tag(i,j) has to be, at place j: the tag of the day and i's share words under key(j,i).
+fn expect(shares: &Shares, day: u16, i: usize, tags: &mut [u16; 32])
+    requires { i < shares.now.shape.n }
+    ensures { Expected shares.now.shape day shares.now.words.now i tags.new }
+{
+    let mut alphas = [0u16; 32];
+    let mut betas = [0u16; 32];
+    gather_keys(shares, i, &mut alphas, &mut betas);
+    mac::tags_with_first(&alphas, &betas, day, shares.share_words(i), tags);
+}
+
+// The same if member i is usable: else nobody looks.
+fn expect_usable(shares: &Shares, day: u16, able: u32, i: usize, tags: &mut [u16; 32])
+    requires { i < shares.now.shape.n }
+    ensures { has able i ≡ true → Expected shares.now.shape day shares.now.words.now i tags.new }
+{
+    if !members::has(able, i) {
+        return;
+    }
+    expect(shares, day, i, tags);
+}
+
+// tag(i,j) is that of the day and i's share words under key(j,i).
+#[tactic(auto, unfolding(crate::specs::Votes::tag_holds))]
+fn tag_holds(shares: &Shares, day: u16, i: usize, j: usize) -> bool
+    requires { (i < shares.now.shape.n) × (j < shares.now.shape.n) }
+    ensures { result ≡ tag_holds shares.now.shape.t shares.now.shape.d day shares.now.words.now i j }
+{
+    let key = shares.key(j, i);
+    let expected = mac::tag_with_first(key.alpha, key.beta, day, shares.share_words(i));
+    shares.tag(i, j) == expected
+}
+
 // The vote of member j on member i, where `tags` has what i's tags have to be.
-fn test_tag(s: Shape, able: u32, shares: &[u16], tags: &[u16], i: usize, j: usize) -> Vote
-    requires room { Room s shares.now }
-    requires i_lt_n { (i < s.n) × (j < s.n) }
-    requires tags_len { length tags.now ≡ 32 }
-    ensures { vote_of result ≡ vote_against s.t s.d able shares.now tags.now j i }
+fn test_tag(shares: &Shares, able: u32, tags: &[u16; 32], i: usize, j: usize) -> Vote
+    requires { (i < shares.now.shape.n) × (j < shares.now.shape.n) }
+    ensures { vote_of result ≡ vote_against shares.now.shape.t shares.now.shape.d able shares.now.words.now tags.now j i }
 {
     if !members::has(able, i) {
         return Vote::Unread; // the member is not usable
@@ -170,144 +182,85 @@ fn test_tag(s: Shape, able: u32, shares: &[u16], tags: &[u16], i: usize, j: usiz
     if !members::has(able, j) {
         return Vote::Unread; // the voter is not usable
     }
-    let at = shares::tag_at(s, i, j);
-    if shares[at] != tags[j] {
+    if shares.tag(i, j) != tags[j] {
         return Vote::Mismatched;
     }
     Vote::Accepted
 }
 
-// The votes on one member, and member j's vote.
-fn add_vote(at: Counted, vote: Vote, j: usize) -> Counted
-    requires { (at.pairs.accepted < 65535) × (at.pairs.mismatched < 65535) × (at.pairs.unread < 65535) }
-    ensures row_value { result.row ≡ cond (is_of accepted (vote_of vote)) (adding at.row j) at.row }
-    ensures pairs_value { pairs_of result.pairs ≡ together (pairs_of at.pairs) (kinds (vote_of vote ∷ [])) }
-{
-    let row = at.row;
-    let accepted = at.pairs.accepted;
-    let mismatched = at.pairs.mismatched;
-    let unread = at.pairs.unread;
-    match vote {
-        Vote::Accepted => Counted {
-            row: members::with(row, j),
-            pairs: Pairs {
-                accepted: accepted + 1,
-                mismatched,
-                unread,
-            },
-        },
-        Vote::Mismatched => Counted {
-            row,
-            pairs: Pairs {
-                accepted,
-                mismatched: mismatched + 1,
-                unread,
-            },
-        },
-        Vote::Unread => Counted {
-            row,
-            pairs: Pairs {
-                accepted,
-                mismatched,
-                unread: unread + 1,
-            },
-        },
-    }
-}
-
-// Everybody's votes on member i, with room for the tags that it has to have.
-fn row_with(s: Shape, day: u16, able: u32, shares: &[u16], i: usize, tags: &mut [u16]) -> Counted
-    requires room { Room s shares.now }
-    requires i_lt_n { i < s.n }
-    requires tags_len { length tags.old ≡ 32 }
-    ensures row_value { result.row ≡ set_of (size s.t) (λ j. accepts s.t s.d day able shares.now j i) }
-    ensures pairs_value { pairs_of result.pairs ≡ kinds (tab (size s.t) (λ j. vote_by s.t s.d day able shares.now j i)) }
-{
-    expect_usable(s, day, able, shares, i, tags);
-    let mut at = Counted {
-        row: 0,
-        pairs: no_pairs(),
-    };
-    let mut j = 0;
-    while j < s.n {
-        at = add_vote(at, test_tag(s, able, shares, tags, i, j), j);
-        j = j + 1;
-    }
-    at
-}
-
 // The vote of member j on member i, by its tag alone.
-fn test_single(s: Shape, day: u16, able: u32, shares: &[u16], i: usize, j: usize) -> Vote
-    requires room { Room s shares.now }
-    requires i_lt_n { (i < s.n) × (j < s.n) }
-    ensures { vote_of result ≡ vote_by s.t s.d day able shares.now j i }
+fn test_single(shares: &Shares, day: u16, able: u32, i: usize, j: usize) -> Vote
+    requires { (i < shares.now.shape.n) × (j < shares.now.shape.n) }
+    ensures { vote_of result ≡ vote_by shares.now.shape.t shares.now.shape.d day able shares.now.words.now j i }
 {
     if !members::has(able, i) || !members::has(able, j) {
         return Vote::Unread; // one of them is not usable
     }
-    if tag_holds(s, day, shares, i, j) {
+    if tag_holds(shares, day, i, j) {
         return Vote::Accepted;
     }
     Vote::Mismatched
 }
 
-// Everybody's votes on member i, one tag after the other.
-fn row_singly(s: Shape, day: u16, able: u32, shares: &[u16], i: usize) -> Counted
-    requires room { Room s shares.now }
-    requires i_lt_n { i < s.n }
-    ensures row_value { result.row ≡ set_of (size s.t) (λ j. accepts s.t s.d day able shares.now j i) }
-    ensures pairs_value { pairs_of result.pairs ≡ kinds (tab (size s.t) (λ j. vote_by s.t s.d day able shares.now j i)) }
+// The votes of n members on one, each by `test`.
+fn row_by<F: Fn(usize) -> Vote>(n: usize, test: F) -> Counted
+    requires few { n ≤ 31 }
+    requires can { (j : ℕ) → j < n → F.pre test j }
+    ensures { Counts (F.post test) n result }
 {
     let mut at = Counted {
         row: 0,
         pairs: no_pairs(),
     };
-    let mut k = 0;
-    while k < s.n {
-        at = add_vote(at, test_single(s, day, able, shares, i, k), k);
-        k = k + 1;
+    for j in 0..n {
+        at = at.with(test(j), j);
     }
     at
 }
 
+// Everybody's votes on member i, one tag after the other.
+fn row_singly(shares: &Shares, day: u16, able: u32, i: usize) -> Counted
+    requires { i < shares.now.shape.n }
+    ensures row_value { result.row ≡ set_of (size shares.now.shape.t) (λ j. accepts shares.now.shape.t shares.now.shape.d day able shares.now.words.now j i) }
+    ensures pairs_value { pairs_of result.pairs ≡ kinds (tab (size shares.now.shape.t) (λ j. vote_by shares.now.shape.t shares.now.shape.d day able shares.now.words.now j i)) }
+{
+    row_by(shares.shape.n, |j| test_single(shares, day, able, i, j))
+}
+
 // Everybody's votes on member i, all tags at once.
-fn row_at_once(s: Shape, day: u16, able: u32, shares: &[u16], i: usize) -> Counted
-    requires room { Room s shares.now }
-    requires i_lt_n { i < s.n }
-    ensures row_value { result.row ≡ set_of (size s.t) (λ j. accepts s.t s.d day able shares.now j i) }
-    ensures pairs_value { pairs_of result.pairs ≡ kinds (tab (size s.t) (λ j. vote_by s.t s.d day able shares.now j i)) }
+fn row_at_once(shares: &Shares, day: u16, able: u32, i: usize) -> Counted
+    requires { i < shares.now.shape.n }
+    ensures row_value { result.row ≡ set_of (size shares.now.shape.t) (λ j. accepts shares.now.shape.t shares.now.shape.d day able shares.now.words.now j i) }
+    ensures pairs_value { pairs_of result.pairs ≡ kinds (tab (size shares.now.shape.t) (λ j. vote_by shares.now.shape.t shares.now.shape.d day able shares.now.words.now j i)) }
 {
     let mut tags = [0u16; 32];
-    row_with(s, day, able, shares, i, &mut tags)
+    expect_usable(shares, day, able, i, &mut tags);
+    row_by(shares.shape.n, |j| test_tag(shares, able, &tags, i, j))
 }
 
 // Everybody's votes on member i, by whichever way is quicker.
-fn row(s: Shape, day: u16, able: u32, shares: &[u16], i: usize) -> Counted
-    requires room { Room s shares.now }
-    requires i_lt_n { i < s.n }
-    ensures row_value { result.row ≡ set_of (size s.t) (λ j. accepts s.t s.d day able shares.now j i) }
-    ensures pairs_value { pairs_of result.pairs ≡ kinds (tab (size s.t) (λ j. vote_by s.t s.d day able shares.now j i)) }
+fn row(shares: &Shares, day: u16, able: u32, i: usize) -> Counted
+    requires { i < shares.now.shape.n }
+    ensures row_value { result.row ≡ set_of (size shares.now.shape.t) (λ j. accepts shares.now.shape.t shares.now.shape.d day able shares.now.words.now j i) }
+    ensures pairs_value { pairs_of result.pairs ≡ kinds (tab (size shares.now.shape.t) (λ j. vote_by shares.now.shape.t shares.now.shape.d day able shares.now.words.now j i)) }
 {
-    if shares::is_large(s) {
-        return row_at_once(s, day, able, shares, i);
+    if shares::is_large(shares.shape) {
+        return row_at_once(shares, day, able, i);
     }
-    row_singly(s, day, able, shares, i)
+    row_singly(shares, day, able, i)
 }
 
 // The vote rows of all members, and how many pairs fell to each kind of vote.
-pub fn fill_rows(s: Shape, day: u16, able: u32, shares: &[u16], rows: &mut [u32]) -> Pairs
-    requires room { Room s shares.now }
-    requires rows_len { length rows.old ≡ s.n }
-    ensures rows_after { rows.new ≡ vote_rows s.t s.d day able shares.now }
-    ensures result_value { pairs_of result ≡ pairs_by s.t s.d day able shares.now }
+pub fn fill_rows(shares: &Shares, day: u16, able: u32, rows: &mut [u32]) -> Pairs
+    requires { length rows.old ≡ shares.now.shape.n }
+    ensures rows_after { rows.new ≡ vote_rows shares.now.shape.t shares.now.shape.d day able shares.now.words.now }
+    ensures result_value { pairs_of result ≡ pairs_by shares.now.shape.t shares.now.shape.d day able shares.now.words.now }
 {
     let mut pairs = no_pairs();
-    let mut i = 0;
-    while i < rows.len() {
-        let at = row(s, day, able, shares, i);
-        rows[i] = at.row;
-        pairs = sum(pairs, at.pairs);
-        i = i + 1;
+    for (i, entry) in rows.iter_mut().enumerate() {
+        let at = row(shares, day, able, i);
+        *entry = at.row;
+        pairs = pairs.and(at.pairs);
     }
     pairs
 }

@@ -1,18 +1,11 @@
 -- The tags that a member has to have, one for each voter, and the votes by them.
 -- Assumes nothing.
-use Rattle.std.specs.Prelude.{ℕ, ◌<◌, ◌≡◌, ◌&&◌, cond, List, eqb, length, get_or}
+use Rattle.std.specs.Prelude.{ℕ, ◌<◌, ◌≡◌, ◌&&◌, cond, List, eqb, get_or}
 use Rattle.mac.specs.Tag.{tag}
 use Rattle.members.specs.Members.{has}
 use Rattle.shares.specs.Layout.{tagged, share_words, tag_word_at, key_α, key_β}
 use Rattle.shares.specs.declared.Shape.{Shape}
 use Rattle.voting.specs.Votes.{Vote, accepted, mismatched, unread}
-
--- place j has α or β of key(j,i)
-pub record Keys (s : Shape) (words : List ℕ) (i : ℕ) (alphas betas : List ℕ) : Type 0 where
-  pub alphas_long : length alphas ≡ 32
-  pub betas_long : length betas ≡ 32
-  pub α_of : (j : ℕ) → j < s.n → get_or alphas j 0 ≡ key_α s.t s.d words j i
-  pub β_of : (j : ℕ) → j < s.n → get_or betas j 0 ≡ key_β s.t s.d words j i
 
 -- place j has what tag(i,j) has to be
 pub record Expected (s : Shape) (day : ℕ) (words : List ℕ) (i : ℕ) (tags : List ℕ) : Type 0 where
