@@ -2,7 +2,8 @@
 // that is returned is that of the rules, 0 when it is done, and masks, numbers and counts are stored in lent places.
 #![tactic(auto)]
 
-ghost use Rattle.std.specs.Prelude.{◌≡◌, [], ◌∷◌, length};
+ghost use Rattle.std.specs.Prelude.{◌≡◌, length, MatchResult};
+ghost use Rattle.refusals.specs.Refusals.{number};
 ghost use Rattle.mac.specs.Tag.{tag as tag_of};
 ghost use Rattle.pruning.specs.Pruning.{prune};
 ghost use Rattle.decoding.specs.Decoding.{decode};
@@ -12,24 +13,23 @@ ghost use Rattle.handin.specs.Reader.{read};
 ghost use Rattle.handin.specs.Writer.{write};
 ghost use Rattle.rutzebam.specs.Calls.{dealt, opened, pruned, decoded, hand_in, hand_in_text};
 
+use refusals::Refusal;
+
+// 0 when it is done, and else the refusal's number.
+fn number_of(outcome: Result<(), Refusal>) -> u16
+    ensures { MatchResult outcome (λ done. result ≡ 0) (λ refusal. result ≡ number refusal) }
+{
+    match outcome {
+        Ok(()) => 0,
+        Err(refusal) => u16::from(refusal),
+    }
+}
+
 // Dealing.
 pub fn rutzebam_deal(t: usize, day: u16, secret: &[u16], random: &[u16], shares: &mut [u16]) -> u16
     ensures { dealt result shares.new ≡ deal t day secret.now random.now shares.old }
 {
-    match dealing::deal(t, day, secret, random, shares) {
-        dealing::Outcome::Dealt => 0,
-        dealing::Outcome::Refused(number) => number,
-    }
-}
-
-// Stores the three counts in the order accepted, mismatched, unread.
-fn store_pairs(given: voting::Pairs, pairs: &mut [u16])
-    requires { length pairs.old ≡ 3 }
-    ensures { pairs.new ≡ given.accepted ∷ given.mismatched ∷ given.unread ∷ [] }
-{
-    pairs[0] = given.accepted;
-    pairs[1] = given.mismatched;
-    pairs[2] = given.unread;
+    number_of(dealing::deal(t, day, secret, random, shares))
 }
 
 // Opening.
@@ -47,24 +47,18 @@ pub fn rutzebam_open(
     ensures { opened result survivors.new agreeing.new pairs.new secret.new ≡ reconstruct t (length secret.old) day present quorum shares.now }
 {
     let answer = reconstruction::reconstruct(t, day, present, quorum, shares, secret);
-    store_pairs(answer.pairs, pairs);
-    let outcome = answer.outcome;
-    match outcome {
-        reconstruction::Outcome::Open {
-            survivors: survived,
-            agreeing: agreed,
-        } => {
-            *survivors = survived;
-            *agreeing = agreed;
+    let told = answer.pairs;
+    *pairs = [told.accepted, told.mismatched, told.unread];
+    match answer.outcome {
+        Ok(opened) => {
+            *survivors = opened.survivors;
+            *agreeing = opened.agreeing;
             0
         }
-        reconstruction::Outcome::Refused {
-            number,
-            survivors: left,
-        } => {
-            *survivors = left;
+        Err(unopened) => {
+            *survivors = unopened.survivors;
             *agreeing = 0;
-            number
+            u16::from(unopened.refusal)
         }
     }
 }
@@ -74,13 +68,13 @@ pub fn rutzebam_prune(t: usize, rows: &[u32], survivors: &mut u32) -> u16
     ensures { pruned result survivors.new ≡ prune t rows.now }
 {
     match pruning::prune(t, rows) {
-        pruning::Survivors::Left(set) => {
+        Ok(set) => {
             *survivors = set;
             0
         }
-        pruning::Survivors::Refused(number) => {
+        Err(refusal) => {
             *survivors = 0;
-            number
+            u16::from(refusal)
         }
     }
 }
@@ -89,10 +83,7 @@ pub fn rutzebam_prune(t: usize, rows: &[u32], survivors: &mut u32) -> u16
 pub fn rutzebam_decode(t: usize, values: &[u16], set: u32, coefficients: &mut [u16]) -> u16
     ensures { decoded result coefficients.new ≡ decode t values.now set (length coefficients.old) }
 {
-    match decoding::decode(t, values, set, coefficients) {
-        decoding::Outcome::Found => 0,
-        decoding::Outcome::Refused(number) => number,
-    }
+    number_of(decoding::decode(t, values, set, coefficients))
 }
 
 // The tag of words; it refuses nothing.
@@ -115,27 +106,21 @@ pub fn rutzebam_read(
     ensures { hand_in result t.new d.new quorum.new day.new present.new words.new ≡ read text.now (length words.old) }
 {
     match handin::read(text, words) {
-        handin::Outcome::Accepted {
-            t: threshold,
-            d: count,
-            quorum: asked,
-            day: named,
-            present: met,
-        } => {
-            *t = threshold;
-            *d = count;
-            *quorum = asked;
-            *day = named;
-            *present = met;
+        Ok(met) => {
+            *t = met.t;
+            *d = met.d;
+            *quorum = met.quorum;
+            *day = met.day;
+            *present = met.present;
             0
         }
-        handin::Outcome::Refused(number) => {
+        Err(refusal) => {
             *t = 0;
             *d = 0;
             *quorum = 0;
             *day = 0;
             *present = 0;
-            number
+            u16::from(refusal)
         }
     }
 }
@@ -154,13 +139,13 @@ pub fn rutzebam_write(
     ensures { hand_in_text result count.new text.new ≡ write t d quorum day present shares.now text.old }
 {
     match handin::write(t, d, quorum, day, present, shares, text) {
-        handin::Wrote::Bytes(length) => {
+        Ok(length) => {
             *count = length;
             0
         }
-        handin::Wrote::Refused(number) => {
+        Err(refusal) => {
             *count = 0;
-            number
+            u16::from(refusal)
         }
     }
 }

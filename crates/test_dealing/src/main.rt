@@ -2,13 +2,13 @@
 // share buffer at exit. The file stdout beside this folder is what another implementation answers, model.py.
 #![tactic(auto)]
 
-use dealing::Outcome;
+use refusals::Refusal;
 use std::io;
 
-fn number(outcome: Outcome) -> u16 {
+fn number(outcome: Result<(), Refusal>) -> u16 {
     match outcome {
-        Outcome::Dealt => 0,
-        Outcome::Refused(k) => k,
+        Ok(()) => 0,
+        Err(refusal) => u16::from(refusal),
     }
 }
 

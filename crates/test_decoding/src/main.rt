@@ -2,7 +2,7 @@
 // The expected output was worked out by another program, which solves the key equation by elimination.
 #![tactic(auto)]
 
-use decoding::Outcome;
+use refusals::Refusal;
 use std::io;
 
 // A number and a tab.
@@ -72,10 +72,10 @@ fn spoil(g: &[u16], set: u32, values: &mut [u16], errors: usize, from: usize, fa
 }
 
 // The number of the refusal, or 0.
-fn number(o: Outcome) -> u16 {
-    match o {
-        Outcome::Found => 0,
-        Outcome::Refused(k) => k,
+fn number(outcome: Result<(), Refusal>) -> u16 {
+    match outcome {
+        Ok(()) => 0,
+        Err(refusal) => u16::from(refusal),
     }
 }
 

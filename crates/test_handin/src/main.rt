@@ -4,14 +4,14 @@
 
 ghost use Rattle.std.specs.Prelude.{◌<◌};
 
-use handin::{Outcome, Wrote};
+use handin::HandIn;
 use std::io;
 use std::io::Read;
 
 fn wide(word: u16) -> u64
     ensures { result < 65536 }
 {
-    word as u64
+    u64::from(word)
 }
 
 fn checksum(words: &[u16]) -> u64 {
@@ -26,35 +26,27 @@ fn print(rt: &impl Print, number: u64, last: char) -> io::Result<()> {
     print!(rt; "{number}{last}")
 }
 
-fn show(
-    rt: &impl Print,
-    number: u16,
-    t: usize,
-    d: usize,
-    quorum: u16,
-    day: u16,
-    present: u32,
-    words: &[u16],
-) -> io::Result<()> {
-    print(rt, number as u64, '\t')?;
-    print(rt, t as u64, '\t')?;
-    print(rt, d as u64, '\t')?;
-    print(rt, quorum as u64, '\t')?;
-    print(rt, day as u64, '\t')?;
-    print(rt, present as u64, '\t')?;
+fn show(rt: &impl Print, number: u16, met: HandIn, words: &[u16]) -> io::Result<()> {
+    print(rt, u64::from(number), '\t')?;
+    print(rt, met.t as u64, '\t')?;
+    print(rt, met.d as u64, '\t')?;
+    print(rt, u64::from(met.quorum), '\t')?;
+    print(rt, u64::from(met.day), '\t')?;
+    print(rt, u64::from(met.present), '\t')?;
     print(rt, checksum(words), '\n')
 }
 
 fn reads(rt: &impl Print, text: &[u8], words: &mut [u16]) -> io::Result<()> {
+    let nothing = HandIn {
+        t: 0,
+        d: 0,
+        quorum: 0,
+        day: 0,
+        present: 0,
+    };
     match handin::read(text, words) {
-        Outcome::Accepted {
-            t,
-            d,
-            quorum,
-            day,
-            present,
-        } => show(rt, 0, t, d, quorum, day, present, words),
-        Outcome::Refused(k) => show(rt, k, 0, 0, 0, 0, 0, words),
+        Ok(met) => show(rt, 0, met, words),
+        Err(refusal) => show(rt, u16::from(refusal), nothing, words),
     }
 }
 
@@ -219,8 +211,8 @@ fn writes(
     text: &mut [u8],
 ) -> io::Result<()> {
     match handin::write(t, d, quorum, day, present, shares, text) {
-        Wrote::Bytes(count) => show_text(rt, 0, count, text),
-        Wrote::Refused(k) => show_text(rt, k, 0, text),
+        Ok(count) => show_text(rt, 0, count, text),
+        Err(refusal) => show_text(rt, u16::from(refusal), 0, text),
     }
 }
 

@@ -1,22 +1,18 @@
 // Prunes tables of votes, and compares what is left with another way of finding the largest set.
 #![tactic(auto)]
 
-use pruning::Survivors;
 use std::io;
 
 // What pruning leaves; all 32 bits, which it never leaves, where it refuses.
 fn left(t: usize, rows: &[u32]) -> u32 {
-    match pruning::prune(t, rows) {
-        Survivors::Left(set) => set,
-        Survivors::Refused(_) => 4294967295,
-    }
+    pruning::prune(t, rows).unwrap_or(4294967295)
 }
 
 // The number of the refusal, or 0.
 fn number(t: usize, rows: &[u32]) -> u16 {
     match pruning::prune(t, rows) {
-        Survivors::Left(_) => 0,
-        Survivors::Refused(k) => k,
+        Ok(_) => 0,
+        Err(refusal) => u16::from(refusal),
     }
 }
 
@@ -122,7 +118,7 @@ fn line(rt: &impl Print, label: &str, n: u64) -> io::Result<()> {
 }
 
 // How many tables agree, how many of them leave nobody and everybody, and the sum of what is left.
-#[derive(Clone, Copy)]
+#[derive(Clone, Copy, Default)]
 struct Tally {
     agree: u64,
     nobody: u64,
@@ -130,20 +126,13 @@ struct Tally {
     sum: u64,
 }
 
-fn one(b: bool) -> u64 {
-    if b {
-        return 1;
-    }
-    0
-}
-
 // One more table, of as many members as `all` has.
 fn more(t: Tally, all: u32, set: u32) -> Tally {
     Tally {
-        agree: t.agree.wrapping_add(one(set <= all)),
-        nobody: t.nobody.wrapping_add(one(set == 0)),
-        everybody: t.everybody.wrapping_add(one(set == all)),
-        sum: t.sum.wrapping_add(set as u64),
+        agree: t.agree.wrapping_add(u64::from(set <= all)),
+        nobody: t.nobody.wrapping_add(u64::from(set == 0)),
+        everybody: t.everybody.wrapping_add(u64::from(set == all)),
+        sum: t.sum.wrapping_add(u64::from(set)),
     }
 }
 
@@ -154,58 +143,37 @@ fn report(rt: &impl Print, t: Tally) -> io::Result<()> {
     line(rt, "sum of what is left: ", t.sum)
 }
 
-// What both ways leave; all 32 bits where they differ.
-fn both3(rows: &[u32; 3]) -> u32 {
-    let set = left(1, rows);
-    if set == joined(rows) {
-        return set;
-    }
-    4294967295
-}
-
-fn both31(rows: &[u32; 31]) -> u32 {
-    let set = left(15, rows);
-    if set == struck(rows) {
-        return set;
-    }
-    4294967295
+// What both ways leave, pruning and another; all 32 bits where they differ.
+fn both(t: usize, rows: &[u32], other: u32) -> u32 {
+    let set = left(t, rows);
+    if set == other { set } else { 4294967295 }
 }
 
 // What is left of the chain whose first member has these votes.
 fn chained(first: u32) -> u32 {
     let mut rows = [0u32; 31];
     chain(&mut rows, first);
-    both31(&rows)
+    both(15, &rows, struck(&rows))
 }
 
 // All tables of three members.
 fn small() -> Tally {
-    let mut t = Tally {
-        agree: 0,
-        nobody: 0,
-        everybody: 0,
-        sum: 0,
-    };
+    let mut t = Tally::default();
     for k in 0..512u32 {
         let rows = [k % 8, k / 8 % 8, k / 64 % 8];
-        t = more(t, 7, both3(&rows));
+        t = more(t, 7, both(1, &rows, joined(&rows)));
     }
     t
 }
 
 // 300 tables of 31 members.
 fn large() -> Tally {
-    let mut t = Tally {
-        agree: 0,
-        nobody: 0,
-        everybody: 0,
-        sum: 0,
-    };
+    let mut t = Tally::default();
     let mut rows = [0u32; 31];
     let mut word: u32 = 1;
     for _ in 0..300u16 {
         word = fill(&mut rows, word);
-        t = more(t, 2147483647, both31(&rows));
+        t = more(t, 2147483647, both(15, &rows, struck(&rows)));
     }
     t
 }
