@@ -13,7 +13,6 @@ use lib.Dec.{eqb, ltb}
 use lib.ListN.{length, get_or, take, set, length-set}
 use lib.Seq.{take-suc-set, take_all, length-take-le, get_or-take}
 use borrow.Author.Tests.{eq-eqb, le-leb, ltb-true, ltb-false}
-use Rattle.lists.specs.Checks.{refusal}
 use Rattle.lists.specs.Tabulate.{tab, all}
 use Rattle.lists.proofs.Blocks.{tab_more}
 use Rattle.lists.proofs.Bools.{and_intro, and_left, same_test}
@@ -27,8 +26,9 @@ use Rattle.members.proofs.Masks.{has-set_of, set_of-lt, set_of_ext, set_of-has, 
 use Rattle.members.proofs.Points.{length_own}
 use Rattle.members.proofs.Words.{size_32, card_32}
 use Rattle.shares.specs.Layout.{share_word}
-use Rattle.shares.specs.Internal.Shape.{Room}
+use Rattle.shares.specs.Internal.Shape.{Station}
 use Rattle.shares.specs.declared.Shape.{Shape}
+use Rattle.shares.proofs.Shapes.{station}
 use Rattle.decoding.specs.Decoding.{surplus, need, agreeing, Fits, nth, find}
 use Rattle.decoding.proofs.Apart.{too_few}
 use Rattle.decoding.proofs.Points.{own_distinct}
@@ -36,7 +36,8 @@ use Rattle.decoding.proofs.Search.{find-found, find_complete}
 use Rattle.decoding.proofs.Unique.{need_least, agrees, card-agreeing, agreeing_same, fits_value}
 use Rattle.decoding.proofs.Words.{word_at, no_word, by_words_lem}
 use Rattle.reconstruction.specs.Reconstruction.{Opened, unopened, at_zero_of, opened_from}
-use Rattle.reconstruction.specs.Internal.Steps.{Decodable, Met, Begun, Came, by_words}
+use Rattle.reconstruction.specs.declared.Survivors.{Survivors}
+use Rattle.reconstruction.specs.Internal.Steps.{Decodable, Met, Begun, Got, by_words}
 use Rattle.reconstruction.proofs.ByWord.{single, Turned, turned_both}
 
 -- enough of a set are not more than all
@@ -196,7 +197,22 @@ unfolding opened_from
 nothing xs t d y s None-found answer len el e = e ∙ ap (λ (m : ℕ). unopened m s 16) el ∙ sym (ap (opened_from xs t d y s) None-found)
 
 -- The same at the members' own points, as the code has it.
-module _ {shape : Shape} {words : List ℕ} (room : Room shape words) {s : ℕ} (dec : Decodable shape.t shape.d words s) where
+module _ (remaining : Survivors) where
+  abbrev shape : Shape
+  shape = remaining.shares.shape
+
+  abbrev words : List ℕ
+  words = remaining.shares.words.now
+
+  abbrev s : ℕ
+  s = remaining.set
+
+  abbrev dec : Decodable shape.t shape.d words s
+  dec = remaining.decodable
+
+  station_of : Station shape
+  station_of = station shape
+
   abbrev t : ℕ
   t = shape.t
 
@@ -207,7 +223,7 @@ module _ {shape : Shape} {words : List ℕ} (room : Room shape words) {s : ℕ} 
   y = share_word t d words
 
   low : t ≤ 15
-  low = room.station.range.t_high
+  low = station_of.range.t_high
 
   abbrev Opening : ℕ → List ℕ → ℕ → Type 0
   Opening = Going (own_points t) t d y s
@@ -230,23 +246,21 @@ module _ {shape : Shape} {words : List ℕ} (room : Room shape words) {s : ℕ} 
     )
 
     pub opening-set : agreed < 2 ^ shape.n
-    opening-set = subst (λ (n : ℕ). agreed < 2 ^ n) (sym room.station.members) opening_below.0
+    opening-set = subst (λ (n : ℕ). agreed < 2 ^ n) (sym station_of.members) opening_below.0
 
     pub opening_enough : {m : ℕ} → m ≡ suc t → m ≤ card shape.n agreed
-    opening_enough e = le_trans (le_of_eq e) (subst (λ (n : ℕ). suc t ≤ card n agreed) (sym room.station.members) opening_below.1)
+    opening_enough e = le_trans (le_of_eq e) (subst (λ (n : ℕ). suc t ≤ card n agreed) (sym station_of.members) opening_below.1)
 
     module _ (more : k < d) where
       -- nothing is found for word k
-      pub opening_none : {number met v : ℕ} → Came (own_points t) t y s k number met v → (number ≡ 0 → ⊥)
-          → {answer : Opened} → answer ≡ unopened (length secret) s (refusal number) → answer ≡ answered
-      opening_none came e {answer} refused =
-          nothing (own_points t) t d y s (no_word (own_points t) (own_distinct t low) t (length_own t) d y s k more (came.without e).1) answer (length secret) going.length_secret
-          (refused ∙ ap (λ (n : ℕ). unopened (length secret) s (refusal n)) (came.without e).0)
+      pub opening_none : find (own_points t) t 1 (λ i j. y i k) s ≡ none → {answer : Opened} → answer ≡ unopened (length secret) s 16 → answer ≡ answered
+      opening_none e {answer} =
+          nothing (own_points t) t d y s (no_word (own_points t) (own_distinct t low) t (length_own t) d y s k more e) answer (length secret) going.length_secret
 
-      module _ {number met v : ℕ} (came : Came (own_points t) t y s k number met v) (found : number ≡ 0)
+      module _ {met v : ℕ} (got : Got (own_points t) t y s k met v)
           {left : ℕ} (el : left ≡ set_of 32 (λ i. has agreed i && has met i)) {b : Bool} (eb : b ≡ ltb (card 32 left) (need t (card 32 s))) where
         turned : Turned (own_points t) t y s agreed k left v
-        turned = turned_both (own_points t) t y s agreed k met left v (came.with_one found) (size_32 t low) opening_below.0 el
+        turned = turned_both (own_points t) t y s agreed k met left v got (size_32 t low) opening_below.0 el
 
         counted : card 32 left ≡ card (size t) left
         counted =

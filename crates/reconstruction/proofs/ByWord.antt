@@ -12,7 +12,10 @@ use native.Mathlib.Omega.{arith}
 use lib.Dec.{eqb, ltb}
 use lib.ListN.{length, get_or}
 use borrow.Author.Tests.{eq-eqb, le-leb, lt-ltb, ltb-false}
-use Rattle.lists.specs.Checks.{refusal}
+use Rattle.std.specs.Prelude.{Result, Ok, Err}
+use Rattle.refusals.specs.Refusals.{number}
+use Rattle.refusals.specs.declared.Refusal.{Refusal}
+use Rattle.refusals.specs.declared.Refusal.TheVariants as the
 use Rattle.lists.specs.Tabulate.{tab, all}
 use Rattle.lists.proofs.Bools.{test}
 use Rattle.lists.proofs.Every.{Every}
@@ -25,11 +28,9 @@ use Rattle.members.proofs.Masks.{set_of_ext, set_of-lt}
 use Rattle.members.proofs.Points.{length_own, own_point}
 use Rattle.members.proofs.Words.{size_32, card_32}
 use Rattle.shares.specs.Layout.{share_word}
-use Rattle.shares.specs.Internal.Shape.{Room}
+use Rattle.shares.specs.Internal.Shape.{Station}
 use Rattle.shares.specs.declared.Shape.{Shape}
-use Rattle.shares.proofs.Shapes.{is_a_threshold}
-use Rattle.decoding.specs.declared.Outcome.{Outcome}
-use Rattle.decoding.specs.declared.Outcome.TheVariants.{Found, Refused}
+use Rattle.shares.proofs.Shapes.{station, is_a_threshold}
 use Rattle.decoding.specs.Answer.{answer_of}
 use Rattle.decoding.specs.Decoding.{Decoded, need, agreeing, nth, find, undecoded, decoded_from, decode}
 use Rattle.decoding.proofs.Apart.{find_ext}
@@ -37,19 +38,41 @@ use Rattle.decoding.proofs.Points.{own_distinct}
 use Rattle.decoding.proofs.Refusals.{judged_at, accepts}
 use Rattle.decoding.proofs.Search.{find-found, find_is}
 use Rattle.decoding.proofs.Words.{word_at}
-use Rattle.reconstruction.specs.Internal.Steps.{Decodable, Got, Came}
+use Rattle.reconstruction.specs.declared.Survivors.{Survivors}
+use Rattle.reconstruction.specs.Internal.Steps.{Decodable, Got}
 use Rattle.reconstruction.proofs.Sets.{both_of}
 
 -- no refusal has the number 0
-refusal_pos : (k : ℕ) → refusal k ≡ 0 → ⊥
-refusal_pos zero e = omega arith
-refusal_pos (suc k) e = suc-ne-zero k e
+refusal_pos : (why : Refusal) → 1 ≤ number why
+refusal_pos the.BadThreshold = omega arith
+refusal_pos the.BadSecretLength = omega arith
+refusal_pos the.BadRandomLength = omega arith
+refusal_pos the.BadSharesLength = omega arith
+refusal_pos the.BadSecretWord = omega arith
+refusal_pos the.BadRandomWord = omega arith
+refusal_pos the.BadRowsLength = omega arith
+refusal_pos the.BadInputLength = omega arith
+refusal_pos the.MemberBeyondN = omega arith
+refusal_pos the.BadQuorum = omega arith
+refusal_pos the.QuorumNotMet = omega arith
+refusal_pos the.NoSurvivors = omega arith
+refusal_pos the.TooFewAgree = omega arith
+refusal_pos the.SetTooSmall = omega arith
+refusal_pos the.BadValue = omega arith
+refusal_pos the.BadCoefficientsLength = omega arith
+refusal_pos the.TextTooLong = omega arith
+refusal_pos the.BadFirstLine = omega arith
+refusal_pos the.BadLine = omega arith
+refusal_pos the.BadLineMember = omega arith
+refusal_pos the.BadBufferLength = omega arith
+refusal_pos the.TextBufferTooShort = omega arith
+refusal_pos the.BadDay = omega arith
 
 -- a refusal means that there is no polynomial
-refused_none : (len k : ℕ) (buffer : List ℕ) (o : Option (List (List ℕ))) → (let a : Decoded = record { number = refusal k; coefficients = buffer } in a) ≡ decoded_from len o → o ≡ none
+refused_none : (len : ℕ) (why : Refusal) (buffer : List ℕ) (o : Option (List (List ℕ))) → answer_of (Err why) buffer ≡ decoded_from len o → o ≡ none
 unfolding decoded_from
-refused_none len k buffer none e = refl
-refused_none len k buffer (some fs) e = absurd (refusal_pos k (ap (λ (a : Decoded). a.number) e))
+refused_none len why buffer none e = refl
+refused_none len why buffer (some fs) e = absurd (omega (arith, refusal_pos why, ap (λ (a : Decoded). a.number) e))
 
 -- the one of a list of one
 pub single : (fs : List (List ℕ)) → length fs ≡ 1 → fs ≡ nth fs 0 ∷ []
@@ -71,12 +94,27 @@ pub record Turned (xs : List ℕ) (t : ℕ) (y : ℕ → ℕ → ℕ) (s agreed 
   pub members : left ≡ set_of (size t) (λ i. has agreed i && eqb (value f (get_or xs i 0)) (y i k))
   pub at_zero : v ≡ value f 0
 
-module _ (shape : Shape) (words : List ℕ) (room : Room shape words) (s : ℕ) (dec : Decodable shape.t shape.d words s) (k : ℕ) (h : k < shape.d) where
+module _ (remaining : Survivors) (k : ℕ) (h : k < remaining.shares.shape.d) where
+  abbrev shape : Shape
+  shape = remaining.shares.shape
+
+  abbrev words : List ℕ
+  words = remaining.shares.words.now
+
+  abbrev s : ℕ
+  s = remaining.set
+
+  abbrev dec : Decodable shape.t shape.d words s
+  dec = remaining.decodable
+
+  station_of : Station shape
+  station_of = station shape
+
   abbrev t : ℕ
   t = shape.t
 
   low : t ≤ 15
-  low = room.station.range.t_high
+  low = station_of.range.t_high
 
   abbrev the_word : ℕ → ℕ
   the_word i = share_word t shape.d words i k
@@ -87,10 +125,10 @@ module _ (shape : Shape) (words : List ℕ) (room : Room shape words) (s : ℕ) 
   module _ (values : List ℕ) (ev : values ≡ tab shape.n the_word) where
     value_at : (i : ℕ) → i < size t → get_or values i 0 ≡ the_word i
     value_at i l =
-        ap (λ (v : List ℕ). get_or v i 0) ev ∙ get_or-tab shape.n the_word i 0 (subst (λ (m : ℕ). i < m) (sym room.station.members) l)
+        ap (λ (v : List ℕ). get_or v i 0) ev ∙ get_or-tab shape.n the_word i 0 (subst (λ (m : ℕ). i < m) (sym station_of.members) l)
 
     as_many : length values ≡ size t
-    as_many = ap length ev ∙ length-tab shape.n the_word ∙ room.station.members
+    as_many = ap length ev ∙ length-tab shape.n the_word ∙ station_of.members
 
     judged : (i : ℕ) → i < size t → judged_at values s i ≡ true
     judged i l =
@@ -100,22 +138,14 @@ module _ (shape : Shape) (words : List ℕ) (room : Room shape words) (s : ℕ) 
         ]
 
     -- the decoder's answer is that of the word
-    pub decodes : (len : ℕ) → len ≡ suc t → (r : Outcome) (f : List ℕ) → answer_of r f ≡ decode t values s len → answer_of r f ≡ decoded_from (suc t) found
+    pub decodes : (len : ℕ) → len ≡ suc t → (r : Result (Unit {0}) Refusal) (f : List ℕ) → answer_of r f ≡ decode t values s len → answer_of r f ≡ decoded_from (suc t) found
     decodes len el r f a =
         a
-        ∙ accepts t values s len (is_a_threshold t shape.d room.station.range) (eq-eqb (length values) (size t) as_many) (eq-eqb len (suc t) el)
+        ∙ accepts t values s len (is_a_threshold t shape.d station_of.range) (eq-eqb (length values) (size t) as_many) (eq-eqb len (suc t) el)
         (lt-ltb s (2 ^ size t) dec.below) (le-leb (suc t) (card (size t) s) dec.enough) (all_intro (size t) (judged_at values s) judged)
         ∙ ap (decoded_from (suc t))
         (find_ext (own_points t) (own_distinct t low) t (length_own t) 1 s (λ i j. get_or values i 0) (λ i j. the_word i)
         (λ i l j m. value_at i l))
-
-  module _ (r : Outcome) (f : List ℕ) (a : answer_of r f ≡ decoded_from (suc t) found) where
-    word-refused : (m : ℕ) → r ≡ Refused m → found ≡ none
-    word-refused m e = refused_none (suc t) m f found (ap (λ (x : Outcome). answer_of x f) (sym e) ∙ a)
-
-    word-found : r ≡ Found → found ≡ some (f ∷ [])
-    word-found e =
-        found-one (suc t) f found (λ fs q. (find-found (own_points t) t 1 (λ i j. the_word i) s fs q).places) (ap (λ (x : Outcome). answer_of x f) (sym e) ∙ a)
 
   -- what is expected at 0 and of the members are values of f, and met are those that meet it
   module _ (f expected : List ℕ) (e : expected ≡ tab (suc shape.n) (value f)) (met : ℕ)
@@ -126,11 +156,11 @@ module _ (shape : Shape) (words : List ℕ) (room : Room shape words) (s : ℕ) 
     met_is : met ≡ set_of (size t) (λ i. eqb (value f (get_or (own_points t) i 0)) (the_word i))
     met_is =
         em
-        ∙ ap (λ (n : ℕ). set_of n (λ i. eqb (get_or expected (i + 1) 0) (the_word i))) room.station.members
+        ∙ ap (λ (n : ℕ). set_of n (λ i. eqb (get_or expected (i + 1) 0) (the_word i))) station_of.members
         ∙ set_of_ext (size t) (λ i. eqb (get_or expected (i + 1) 0) (the_word i)) (λ i. eqb (value f (get_or (own_points t) i 0)) (the_word i))
         (λ i l.
         ap (λ (v : ℕ). eqb v (the_word i))
-        (expected_at (i + 1) (omega (arith, room.station.members)) ∙ ap (value f) (add-one i ∙ sym (own_point t i l))))
+        (expected_at (i + 1) (omega (arith, station_of.members)) ∙ ap (value f) (add-one i ∙ sym (own_point t i l))))
 
     got : found ≡ some (f ∷ []) → Got (own_points t) t (share_word t shape.d words) s k met (get_or expected 0 0)
     got q = record { f = f; found = q; meets = met_is; at_zero = expected_at 0 zero-le }
@@ -164,33 +194,26 @@ module _ (shape : Shape) (words : List ℕ) (room : Room shape words) (s : ℕ) 
           (record { degree = λ j l. le_of_eq lf; enough = many }) (λ j l. lf) (λ j l. wf)
 
   -- the decoder finds none, or one
-  module _ (r : Outcome) (f : List ℕ) (a : answer_of r f ≡ decoded_from (suc t) found) where
-    pub came_none : {m : ℕ} → r ≡ Refused m → {met v : ℕ} → Came (own_points t) t (share_word t shape.d words) s k 16 met v
-    came_none {m} e = record { without = λ q. (refl, word-refused r f a m e); with_one = λ q. absurd (omega arith) }
+  pub came_none : (why : Refusal) (f : List ℕ) → answer_of (Err why) f ≡ decoded_from (suc t) found → found ≡ none
+  came_none why f a = refused_none (suc t) why f found a
 
-    pub came_found : r ≡ Found → {expected : List ℕ} {len : ℕ} → len ≡ suc shape.n → expected ≡ tab len (value f)
-        → {met : ℕ} → met ≡ set_of shape.n (λ i. eqb (get_or expected (i + 1) 0) (the_word i))
-        → Came (own_points t) t (share_word t shape.d words) s k 0 met (get_or expected 0 0)
-    came_found e {expected} {len} el ee {met} em =
-        record {
-          without = λ q. absurd (q refl);
-          with_one = λ q. got f expected (ee ∙ ap (λ (n : ℕ). tab n (value f)) el) met em (word-found r f a e);
-        }
+  pub came_found : (f : List ℕ) → answer_of (Ok tt) f ≡ decoded_from (suc t) found → {expected : List ℕ} {len : ℕ} → len ≡ suc shape.n → expected ≡ tab len (value f)
+      → {met : ℕ} → met ≡ set_of shape.n (λ i. eqb (get_or expected (i + 1) 0) (the_word i))
+      → Got (own_points t) t (share_word t shape.d words) s k met (get_or expected 0 0)
+  came_found f a {expected} {len} el ee {met} em =
+      got f expected (ee ∙ ap (λ (n : ℕ). tab n (value f)) el) met em
+      (found-one (suc t) f found (λ fs q. (find-found (own_points t) t 1 (λ i j. the_word i) s fs q).places) a)
 
   -- the matrix gives one that enough survivors meet
   pub came_read : (points ys : List ℕ) → length points ≡ suc t → length ys ≡ suc t
       → {expected : List ℕ} → expected ≡ tab (suc shape.n) (value (interpolate points ys))
       → {met : ℕ} → met ≡ set_of shape.n (λ i. eqb (get_or expected (i + 1) 0) (the_word i))
       → {left : ℕ} → left ≡ set_of 32 (λ i. has s i && has met i) → {b : Bool} → b ≡ ltb (card 32 left) (need t (card 32 s)) → b ≡ false
-      → Came (own_points t) t (share_word t shape.d words) s k 0 met (get_or expected 0 0)
+      → Got (own_points t) t (share_word t shape.d words) s k met (get_or expected 0 0)
   came_read points ys lp ly {expected} ee {met} em {left} el {b} eb enough =
       let f : List ℕ = interpolate points ys in
-      record {
-        without = λ q. absurd (q refl);
-        with_one = λ q.
-            got f expected ee met em
-            (fits_found f expected ee met em left el b eb enough (length-interpolate points ys (ly ∙ sym lp) ∙ lp) (interpolate_words points ys));
-      }
+      got f expected ee met em
+      (fits_found f expected ee met em left el b eb enough (length-interpolate points ys (ly ∙ sym lp) ∙ lp) (interpolate_words points ys))
 
 -- of the agreeing members those that meet a word's polynomial are left
 pub turned_both : (xs : List ℕ) (t : ℕ) (y : ℕ → ℕ → ℕ) (s agreed k met left v : ℕ) → Got xs t y s k met v → size t ≤ 32 → agreed < 2 ^ size t

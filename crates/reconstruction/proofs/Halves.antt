@@ -23,8 +23,9 @@ use Rattle.voting.specs.declared.Pairs.{Pairs}
 use Rattle.voting.specs.Answer.{pairs_of}
 use Rattle.voting.proofs.Meaning.{usable-lt, usable_words, row_is}
 use Rattle.voting.proofs.Rows.{empty_row}
-use Rattle.pruning.specs.declared.Survivors.{Survivors}
-use Rattle.pruning.specs.declared.Survivors.TheVariants.{Left, Refused}
+use Rattle.std.specs.Prelude.{Result, Ok, Err}
+use Rattle.std.specs.Result.{result_unwrap_or}
+use Rattle.refusals.specs.declared.Refusal.{Refusal}
 use Rattle.pruning.specs.Answer.{answer_of}
 use Rattle.pruning.specs.Pruning.{Pruned, survivors, prune}
 use Rattle.pruning.proofs.Answers.{accepts as accepted}
@@ -33,17 +34,11 @@ use Rattle.reconstruction.specs.Reconstruction.{Opened, unopened, required, fini
 use Rattle.reconstruction.specs.Internal.Steps.{Voted, Decodable, by_words, by_votes, by_shares}
 use Rattle.reconstruction.proofs.Opening.{finish_opens, finish_none}
 
--- what pruning's answer gives is the survivors
-module _ (t : ℕ) (rows : List ℕ) (h : is_threshold t ≡ true) (long : length rows ≡ size t) (sets : each (is_set (size t)) rows ≡ true)
-    (r : Survivors) (a : answer_of r ≡ prune t rows) where
-  given : (x : Survivors) → r ≡ x → (answer_of x).survivors ≡ survivors t rows
-  given x q = ap (λ (y : Survivors). (answer_of y).survivors) (sym q) ∙ ap (λ (p : Pruned). p.survivors) (a ∙ accepted t rows h long sets)
-
-  pub survivors-left : (s : ℕ) → r ≡ Left s → s ≡ survivors t rows
-  survivors-left s = given (Left s)
-
-  pub survivors_none : (k : ℕ) → r ≡ Refused k → 0 ≡ survivors t rows
-  survivors_none k = given (Refused k)
+-- pruning takes the rows, and answers their survivors
+module _ (t : ℕ) (rows : List ℕ) (h : is_threshold t ≡ true) (long : length rows ≡ size t) (sets : each (is_set (size t)) rows ≡ true) where
+  pub surviving_lem : (r : Result ℕ Refusal) → answer_of r ≡ prune t rows → result_unwrap_or r 0 ≡ survivors t rows
+  surviving_lem (Ok set) a = ap (λ (p : Pruned). p.survivors) (a ∙ accepted t rows h long sets)
+  surviving_lem (Err why) a = ap (λ (p : Pruned). p.survivors) (a ∙ accepted t rows h long sets)
 
 -- the votes of shares: nobody accepts a member that is not usable
 pub votes_voted : (s : Shape) (words : List ℕ) → Room s words → (day able present : ℕ) → able ≡ usable s.t s.d present words

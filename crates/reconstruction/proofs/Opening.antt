@@ -4,13 +4,14 @@ use mathlib.Core.Path.{◌≡◌, sym, ◌∙◌}
 use mathlib.Core.Logic.{inl, inr}
 use mathlib.Core.Bool.{Bool, true}
 use mathlib.Core.List.{List}
+use Rattle.std.proofs.Common.{Err}
 use Prim.Native.Nat.{ℕ, suc, ◌+◌, ◌*◌, ◌^◌, ◌≤◌, ◌<◌}
 use native.Mathlib.Omega.{arith}
 use native.Mathlib.Numerals.{add-one}
 use lib.Dec.{eqb}
 use lib.ListN.{length, replicate}
 use borrow.Author.Tests.{le-leb, lt-ltb, eq-eqb, ne_eqb}
-use Rattle.lists.specs.Checks.{refusal, within}
+use Rattle.lists.specs.Checks.{within}
 use Rattle.lists.proofs.Bools.{test}
 use Rattle.lists.proofs.Checks.{within_low, within_high}
 use Rattle.members.specs.Members.{is_threshold, size, own_points, card}
@@ -20,7 +21,8 @@ use Rattle.voting.specs.declared.Pairs.{Pairs}
 use Rattle.voting.specs.Answer.{pairs_of}
 use Rattle.pruning.specs.Pruning.{survivors}
 use Rattle.decoding.specs.Decoding.{find}
-use Rattle.reconstruction.specs.declared.Outcome.TheVariants.{Refused}
+use Rattle.refusals.specs.Refusals.{number}
+use Rattle.refusals.specs.declared.Refusal.{Refusal}
 use Rattle.reconstruction.specs.Answer.{answer_of}
 use Rattle.reconstruction.specs.Reconstruction.{Opened, unopened, is_quorum, required, opened_from, finish, Answered, turned_away, reconstruct}
 
@@ -85,9 +87,10 @@ module _ (t quorum : ℕ) where
   quorum_other n e h b eb = eb ∙ sym (rw (ne_eqb quorum 0 h, ← e, ← add-one))
 
 -- a refusal's answer
-pub refused_so : (d number survived : ℕ) (secret : List ℕ) → secret ≡ replicate d 65535 → answer_of (Refused number survived) secret ≡ unopened d survived (refusal number)
+pub refused_so : (d survived : ℕ) (why : Refusal) (secret : List ℕ) → secret ≡ replicate d 65535
+    → answer_of (Err (record { refusal = why; survivors = survived })) secret ≡ unopened d survived (number why)
 unfolding unopened
-refused_so d number survived secret e = rw e
+refused_so d survived why secret e = rw e
 
 -- and one before the votes
 pub turned_away_lem : (d number : ℕ) (a : Opened) → a ≡ unopened d 0 number → (p : Pairs) → pairs_of p ≡ no_pairs

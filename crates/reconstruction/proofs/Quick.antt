@@ -17,13 +17,15 @@ use Rattle.members.specs.Members.{size, own_points, has, first_of}
 use Rattle.members.proofs.Points.{own_point}
 use Rattle.members.proofs.Words.{has-first_of}
 use Rattle.shares.specs.Layout.{share_word}
-use Rattle.shares.specs.Internal.Shape.{Room}
+use Rattle.shares.specs.Internal.Shape.{Station}
 use Rattle.shares.specs.declared.Shape.{Shape}
+use Rattle.shares.proofs.Shapes.{station}
 use Rattle.parity.specs.Parity.{balanced, Lies}
 use Rattle.parity.specs.Internal.Looking.{looked, with_values}
 use Rattle.parity.proofs.Balance.{balanced_lies}
 use Rattle.parity.proofs.Turns.{leading_passes, looked-le, opened_at}
 use Rattle.parity.proofs.Zero.{constant_is}
+use Rattle.reconstruction.specs.declared.Survivors.{Survivors}
 use Rattle.reconstruction.specs.Internal.Steps.{Decodable, Met, Begun, quickly}
 
 -- words that lie on a polynomial of degree at most t: all of any set meet it
@@ -46,7 +48,22 @@ pub all-quickly : (shape : Shape) (words : List ℕ) (s all r : ℕ) → all ≡
 all-quickly shape words s all r e h er =
     er ∙ sym (ap (λ (b : Bool). cond b (looked shape.t shape.d (share_word shape.t shape.d words)) 0) (eq-eqb s (first_of shape.n) (h ∙ e)))
 
-module _ {shape : Shape} {words : List ℕ} (room : Room shape words) {s : ℕ} (dec : Decodable shape.t shape.d words s) where
+module _ (remaining : Survivors) where
+  abbrev shape : Shape
+  shape = remaining.shares.shape
+
+  abbrev words : List ℕ
+  words = remaining.shares.words.now
+
+  abbrev s : ℕ
+  s = remaining.set
+
+  abbrev dec : Decodable shape.t shape.d words s
+  dec = remaining.decodable
+
+  station_of : Station shape
+  station_of = station shape
+
   abbrev t : ℕ
   t = shape.t
 
@@ -65,11 +82,11 @@ module _ {shape : Shape} {words : List ℕ} (room : Room shape words) {s : ℕ} 
         inside = looked-le t d y r er
 
         own : (i : ℕ) → i < size t → has s i ≡ true
-        own i h = ap (λ (m : ℕ). has m i) all ∙ has-first_of shape.n i (omega (arith, room.station.few)) (subst (λ (n : ℕ). i < n) (sym room.station.members) h)
+        own i h = ap (λ (m : ℕ). has m i) all ∙ has-first_of shape.n i (omega (arith, station_of.few)) (subst (λ (n : ℕ). i < n) (sym station_of.members) h)
 
         lies : (j : ℕ) → j < r → Lies t (λ i. y i j)
         lies j l =
-            balanced_lies t room.station.range.t_low room.station.range.t_high (λ i. y i j)
+            balanced_lies t station_of.range.t_low station_of.range.t_high (λ i. y i j)
             (λ i h. dec.field i h (own i h) j (lt_of_lt_of_le l inside))
             (leading_passes d (λ k. balanced t (λ i. y i k)) j (subst (λ (n : ℕ). j < n) er l))
 
@@ -78,7 +95,7 @@ module _ {shape : Shape} {words : List ℕ} (room : Room shape words) {s : ℕ} 
             lies_met t y s j (get_or after j 0) (lies j l)
             (ap (λ (w : List ℕ). get_or w j 0) after_is
             ∙ opened_at t r y before j (le_trans inside (le_of_eq (sym long))) l
-            ∙ constant_is t room.station.range.t_low room.station.range.t_high (λ i. y i j) (lies j l))
+            ∙ constant_is t station_of.range.t_low station_of.range.t_high (λ i. y i j) (lies j l))
 
     none_begun : r ≡ 0 → Begun (own_points t) t d y s r after
     none_begun e =

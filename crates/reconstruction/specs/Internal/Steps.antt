@@ -1,6 +1,6 @@
 -- What votes have to be for the second half of opening, what the survivors have to be before their words are opened, and what each comes to.
 -- Assumes nothing.
-use Rattle.std.specs.Prelude.{ℕ, suc, ◌≤◌, ◌<◌, ◌^◌, ◌≡◌, true, cond, List, [], ◌∷◌, eqb, length, get_or}
+use Rattle.std.specs.Prelude.{ℕ, suc, ◌≤◌, ◌<◌, ◌^◌, ◌≡◌, true, cond, List, [], ◌∷◌, eqb, length, get_or, Option, MatchOption}
 use Rattle.std.proofs.Math.Option.{none, some}
 use Rattle.lists.specs.Tabulate.{each}
 use Rattle.field.specs.Field.{prime}
@@ -11,6 +11,7 @@ use Rattle.shares.specs.declared.Shape.{Shape}
 use Rattle.parity.specs.Internal.Looking.{looked}
 use Rattle.voting.specs.Votes.{usable, vote_rows, pairs}
 use Rattle.decoding.specs.Decoding.{find}
+use Rattle.reconstruction.specs.declared.Word.{Word}
 use Rattle.reconstruction.specs.Reconstruction.{Opened, opened_from, finish, Answered}
 
 -- votes from anywhere: a row for each of n members, and field words as share words of every member that has a vote
@@ -45,10 +46,9 @@ pub record Got (xs : List ℕ) (t : ℕ) (y : ℕ → ℕ → ℕ) (set k met v 
   pub meets : met ≡ set_of (size t) (λ i. eqb (value f (get_or xs i 0)) (y i k))
   pub at_zero : v ≡ value f 0
 
--- what word k comes to: the number is 16 if there is no polynomial, and else 0
-pub record Came (xs : List ℕ) (t : ℕ) (y : ℕ → ℕ → ℕ) (set k number met v : ℕ) : Type 0 where
-  pub without : (number ≡ 0 → ⊥) → (number ≡ 16) × (find xs t 1 (λ i j. y i k) set ≡ none)
-  pub with_one : number ≡ 0 → Got xs t y set k met v
+-- what word k comes to: nothing if there is no polynomial
+abbrev pub Came : List ℕ → ℕ → (ℕ → ℕ → ℕ) → ℕ → ℕ → Option Word → Type 0
+Came xs t y set k word = MatchOption word (find xs t 1 (λ i j. y i k) set ≡ none) (λ w. Got xs t y set k w.met w.value)
 
 -- how many words the look opens: where all n members survive, those that pass it before one that does not
 abbrev pub quickly : Shape → List ℕ → ℕ → ℕ

@@ -1,0 +1,50 @@
+-- `reconstruction::Survivors::open_words`: where a word has no polynomial, or too few are left, nothing is found for all words together, and after the last word all is found.
+-- Assumes nothing.
+use Rattle.std.proofs.Common.{◌≡◌, refl, ◌+◌, ◌∙◌, arith, length}
+use Rattle.std.proofs.Math.ListN.{set, length-set}
+use Rattle.members.specs.Members.{own_points}
+use Rattle.reconstruction.specs.Internal.Words.{words}
+use Rattle.reconstruction.proofs.AllWords.{Going, opening_begun, opening_none, opening_few, opening_next, opening-set, opening_enough, opening_last}
+use Rattle.reconstruction.proofs.Survivors.open_words.Goals as goal
+
+-- enough are left, and the value at 0 is stored
+pub loop-k-init : goal.loop-k-init
+loop-k-init c =
+    record {
+      going = opening_begun c.args.self.now c.requires.points_len.1 c.requires.begun;
+      long = c.requires.points_len.0;
+      chosen = c.requires.chosen.0;
+      rows = c.requires.chosen.1;
+    }
+
+pub returns-in_default : goal.returns-in_default
+returns-in_default c = opening_none c.args.self.now c.loop-k.invariant.going c.loop-k-test.true c.in_default.ensures c.refuse.ensures
+
+pub returns-then-too_few : goal.returns-then-too_few
+returns-then-too_few c =
+    opening_few c.args.self.now c.loop-k.invariant.going c.loop-k-test.true c.in-Some.ensures c.both-agreed.ensures c.too_few.ensures c.if-too_few.true _
+    c.refuse-then-too_few.ensures
+
+pub renew-requires-clause-n_bound : goal.renew-requires-clause-n_bound
+renew-requires-clause-n_bound c =
+    let going = opening_next c.args.self.now c.loop-k.invariant.going c.loop-k-test.true c.in-Some.ensures c.both-agreed.ensures c.too_few.ensures
+    c.if-too_few.false refl in (
+      c.args.self.now.few,
+      opening-set c.args.self.now going,
+      opening_enough c.args.self.now going c.loop-k.invariant.long,
+      omega (arith, c.loop-k.invariant.long, c.args.self.now.shares.shape.t_high),
+    )
+
+pub loop-k-preserved : goal.loop-k-preserved
+loop-k-preserved c =
+    record {
+      going =
+          opening_next c.args.self.now c.loop-k.invariant.going c.loop-k-test.true c.in-Some.ensures c.both-agreed.ensures c.too_few.ensures
+          c.if-too_few.false refl;
+      long = omega (arith, c.renew.auto, c.loop-k.invariant.long);
+      chosen = c.renew.ensures.0;
+      rows = c.renew.ensures.1;
+    }
+
+pub returns : goal.returns
+returns c = opening_last c.args.self.now c.loop-k.invariant.going c.loop-k-test.false
