@@ -3,3 +3,4 @@ pub mod Examples
 pub mod Lines
 pub mod Opening
 pub mod Reading
+pub mod Refusals

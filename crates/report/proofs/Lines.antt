@@ -12,8 +12,8 @@ use Rattle.lists.proofs.Blocks.{concat_more}
 use Rattle.text.specs.Lines.{line}
 use Rattle.text.specs.Internal.Writing.{Written}
 use Rattle.text.proofs.Printing.{length-line, field_most, field_short}
-use Rattle.text.proofs.Writing.{written_none, written_then}
-use Rattle.report.specs.Report.{word_line, Reported}
+use Rattle.text.proofs.Writing.{written_none, written_then, written_front, written_count}
+use Rattle.report.specs.Report.{word_line, report, Reported}
 use Rattle.report.specs.Internal.Printing.{word_lines}
 
 -- a place has at most 2 digits and a word at most 5
@@ -65,6 +65,8 @@ module _ (secret before : List ℕ) (at : ℕ) where
       let n : k ≡ length secret = omega (arith, l.inside) in
       rw n at l.written
 
--- what is printed is in the buffer
-pub reported_inside : {text before after : List ℕ} {count : ℕ} → Reported text before after count → count ≤ length after
-reported_inside r = omega (arith, r.long, simp length-append at (ap length r.printed))
+-- what is written from the front on is what is printed
+pub reported : {text before l m : List ℕ} {at end count : ℕ} → Written l at (report text) m end → l ≡ before → at ≡ 0 → count ≡ end → Reported text before m count
+reported {text} {m = m} {end = end} w same front e =
+    let w : Written _ 0 (report text) m end = rw (same, front) at w in
+    rw e (record { printed = written_front w; long = written_count w })

@@ -6,8 +6,8 @@ use Rattle.text.proofs.Printing.{field_short}
 use Rattle.report.proofs.put_refused.Goals as goal
 
 pub put_line-requires : goal.put_line-requires
-put_line-requires c = omega (arith, field_short c.args.number (omega arith), field_short c.args.survivors (omega arith))
+put_line-requires c = omega (arith, field_short c.from.result (omega arith), field_short c.args.survivors (omega arith))
 
-pub returns : goal.returns
+pub returns-clause-written : goal.returns-clause-written
 unfolding ascii
-returns c = c.put_line.ensures
+returns-clause-written c = rw (← c.from.ensures) c.put_line.ensures.written

@@ -8,6 +8,6 @@ use Rattle.report.proofs.put_word_line.Goals as goal
 pub put_line-requires : goal.put_line-requires
 put_line-requires c = omega (arith, field_most 1 c.args.place (omega arith), field_most 4 c.args.word (omega arith))
 
-pub returns : goal.returns
+pub returns-clause-written : goal.returns-clause-written
 unfolding ascii
-returns c = c.put_line.ensures
+returns-clause-written c = c.put_line.ensures.written
