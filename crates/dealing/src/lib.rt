@@ -161,7 +161,6 @@ impl Supply<'_> {
     }
 
     // Member i's share. The member's point is points[i].
-    #[tactic(auto, unfolding(crate::specs::Dealing::dealt_share, crate::specs::Internal::Steps::words_at, crate::specs::Internal::Steps::tags_of, crate::specs::Internal::Steps::keys_of))]
     fn fill_share(&self, points: &[u16], i: usize, share: &mut [u16])
         requires points_len { (length points.now ≡ self.now.shape.n) × (i < self.now.shape.n) }
         requires share_len { length share.old ≡ self.now.shape.width }
