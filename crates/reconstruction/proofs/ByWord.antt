@@ -5,7 +5,7 @@ use mathlib.Core.Logic.{inl, inr}
 use mathlib.Core.Bool.{Bool, true, false, ◌&&◌, and-true}
 use mathlib.Core.Option.{Option, none, some}
 use mathlib.Core.List.{List, [], ◌∷◌}
-use Prim.Native.Nat.{ℕ, zero, suc, ◌+◌, ◌≤◌, ◌<◌, ◌^◌, zero-le, suc-le-suc}
+use Prim.Native.Nat.{ℕ, suc, ◌+◌, ◌≤◌, ◌<◌, ◌^◌, zero-le, suc-le-suc}
 use native.Mathlib.Nat.{le_of_eq, suc-ne-zero, suc_inj}
 use native.Mathlib.Numerals.{add-one}
 use native.Mathlib.Omega.{arith}

@@ -16,8 +16,9 @@ use Rattle.members.specs.Members.{is_threshold, size, own_points, has, set_of, i
 use Rattle.members.proofs.Masks.{set_of-lt}
 use Rattle.members.proofs.Words.{card_32}
 use Rattle.shares.specs.Layout.{share_word}
-use Rattle.shares.specs.Internal.Shape.{Room}
 use Rattle.shares.specs.declared.Shape.{Shape}
+use Rattle.shares.specs.declared.Shares.{Shares}
+use Rattle.shares.proofs.Shapes.{station}
 use Rattle.voting.specs.Votes.{usable, accepts, vote_rows, pairs}
 use Rattle.voting.specs.declared.Pairs.{Pairs}
 use Rattle.voting.specs.Answer.{pairs_of}
@@ -41,11 +42,12 @@ module _ (t : ℕ) (rows : List ℕ) (h : is_threshold t ≡ true) (long : lengt
   surviving_lem (Err why) a = ap (λ (p : Pruned). p.survivors) (a ∙ accepted t rows h long sets)
 
 -- the votes of shares: nobody accepts a member that is not usable
-pub votes_voted : (s : Shape) (words : List ℕ) → Room s words → (day able present : ℕ) → able ≡ usable s.t s.d present words
-    → (rows : List ℕ) → rows ≡ vote_rows s.t s.d day able words → Voted s able rows words
+pub votes_voted : (shares : Shares) (day able present : ℕ) → able ≡ usable shares.shape.t shares.shape.d present shares.words.now
+    → (rows : List ℕ) → rows ≡ vote_rows shares.shape.t shares.shape.d day able shares.words.now → Voted shares.shape able rows shares.words.now
 unfolding vote_rows
-votes_voted s words room day able present ea rows er =
-    let (t, d) : ℕ × ℕ = (s.t, s.d) in
+votes_voted shares day able present ea rows er =
+    let words : List ℕ = shares.words.now in
+    let (t, d) : ℕ × ℕ = (shares.shape.t, shares.shape.d) in
     let row : ℕ → ℕ = λ i. set_of (size t) (λ j. accepts t d day able words j i) in
     record {
       below = subst (λ (m : ℕ). m < 2 ^ size t) (sym ea) (usable-lt t d present words);
@@ -55,12 +57,18 @@ votes_voted s words room day able present ea rows er =
           ∙ every_each (is_set (size t)) (every_tab (size t) row (λ i l. lt-ltb (row i) (2 ^ size t) (set_of-lt (size t) (λ j. accepts t d day able words j i))));
       field = λ i l some k m.
           elim (test (has able i)) [
-            | inl e ↦ usable_words t d present words i l (subst (λ (a : ℕ). has a i ≡ true) ea e) k (omega (arith, room.station.share, room.station.parts))
+            | inl e ↦ usable_words t d present words i l (subst (λ (a : ℕ). has a i ≡ true) ea e) k (omega (arith, (station shares.shape).share, (station shares.shape).parts))
             | inr e ↦ absurd (some (ap (λ (r : List ℕ). get_or r i 0) er ∙ row_is t d day able words i l ∙ empty_row t d day able words i e))
           ];
     }
 
-module _ (s : Shape) (words : List ℕ) (room : Room s words) (able : ℕ) (rows : List ℕ) (voted : Voted s able rows words) where
+module _ (shares : Shares) (able : ℕ) (rows : List ℕ) (voted : Voted shares.shape able rows shares.words.now) where
+  abbrev s : Shape
+  s = shares.shape
+
+  abbrev words : List ℕ
+  words = shares.words.now
+
   abbrev t : ℕ
   t = s.t
 
@@ -80,7 +88,7 @@ module _ (s : Shape) (words : List ℕ) (room : Room s words) (able : ℕ) (rows
     finished = by_votes s quorum able rows words
 
     counted : c ≡ card (size t) able
-    counted = ec ∙ card_32 t able room.station.range.t_high voted.below
+    counted = ec ∙ card_32 t able s.t_high voted.below
 
     pub finish_14 : c < q → (answer : Opened) (len : ℕ) → len ≡ s.d → answer ≡ unopened len 0 14 → answer ≡ finished
     unfolding finish

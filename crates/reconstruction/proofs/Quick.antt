@@ -7,9 +7,9 @@ use mathlib.Core.List.{List}
 use Prim.Native.Nat.{ℕ, ◌≤◌, ◌<◌, zero-le}
 use native.Mathlib.Nat.{le_trans, le_of_eq, lt_of_lt_of_le, not-suc-le-zero}
 use native.Mathlib.Omega.{arith}
-use lib.Dec.{eqb, ltb}
+use lib.Dec.{eqb}
 use lib.ListN.{length, get_or}
-use borrow.Author.Tests.{eqb-true, eq-eqb, ne_eqb, lt-ltb}
+use borrow.Author.Tests.{eqb-true}
 use Rattle.lists.specs.Tabulate.{tab}
 use Rattle.lists.proofs.Bools.{test}
 use Rattle.polynomial.specs.Polynomial.{value}
@@ -34,19 +34,9 @@ lies_met t y s j v l e =
     record { f = l.f; degree = l.degree; meets = λ i h m. ap (value l.f) (own_point t i h) ∙ l.meets i h; at_zero = e }
 
 -- nothing is opened, and nothing stored
-pub not-quickly : (shape : Shape) (words : List ℕ) (s all : ℕ) → all ≡ first_of shape.n → (s ≡ all → ⊥) → 0 ≡ quickly shape words s
-not-quickly shape words s all e h =
-    sym (ap (λ (b : Bool). cond b (looked shape.t shape.d (share_word shape.t shape.d words)) 0) (ne_eqb s (first_of shape.n) (λ q. h (q ∙ sym e))))
-
 pub none_opened : (t : ℕ) (y : ℕ → ℕ → ℕ) (secret : List ℕ) → secret ≡ with_values t 0 y secret
 unfolding with_values tab
 none_opened t y secret = refl
-
--- all n members survive
-pub all-quickly : (shape : Shape) (words : List ℕ) (s all r : ℕ) → all ≡ first_of shape.n → s ≡ all
-    → r ≡ looked shape.t shape.d (share_word shape.t shape.d words) → r ≡ quickly shape words s
-all-quickly shape words s all r e h er =
-    er ∙ sym (ap (λ (b : Bool). cond b (looked shape.t shape.d (share_word shape.t shape.d words)) 0) (eq-eqb s (first_of shape.n) (h ∙ e)))
 
 module _ (remaining : Survivors) where
   abbrev shape : Shape

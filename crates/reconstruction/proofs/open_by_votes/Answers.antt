@@ -1,9 +1,8 @@
 -- `reconstruction::open_by_votes`: the usable members, and the votes of their shares.
 -- Assumes nothing.
-use Rattle.shares.proofs.Shapes.{room}
-use Rattle.reconstruction.proofs.Halves.{votes_voted, by_votes_lem}
+use Rattle.reconstruction.proofs.Halves.{votes_voted}
 use Rattle.reconstruction.proofs.open_by_votes.Goals as goal
 
 pub open_voted-requires-clause-voted : goal.open_voted-requires-clause-voted
 open_voted-requires-clause-voted c =
-    votes_voted c.args.shares.now.shape _ (room c.args.shares.now.shape _ c.args.shares.now.long) _ _ _ c.usable_members-able.ensures _ c.fill_rows-pairs.ensures.rows_after
+    votes_voted c.args.shares.now _ _ _ c.usable_members-able.ensures _ c.fill_rows-pairs.ensures.rows_after

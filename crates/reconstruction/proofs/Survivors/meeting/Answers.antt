@@ -1,6 +1,6 @@
 -- `reconstruction::Survivors::meeting`: a member is taken if its word is the expected one.
 -- Assumes nothing.
-use Rattle.std.proofs.Common.{◌≡◌, ℕ, ◌+◌, eqb, cond, Bool, sym, ap, ◌∙◌, arith, eq-eqb, ne_eqb}
+use Rattle.std.proofs.Common.{◌≡◌, ℕ, eqb, cond, Bool, sym, ap, ◌∙◌, eq-eqb, ne_eqb}
 use Rattle.members.specs.Members.{adding}
 use Rattle.members.proofs.Taken.{taken_first, taken_next}
 use Rattle.reconstruction.proofs.Survivors.meeting.Goals.{then-expected-i, else-expected-i}

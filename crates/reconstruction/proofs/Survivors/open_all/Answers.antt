@@ -1,6 +1,6 @@
 -- `reconstruction::Survivors::open_all`: the words that the look opens are begun; where it opens all, all is found.
 -- Assumes nothing.
-use Rattle.std.proofs.Common.{le_of_eq, sym, arith}
+use Rattle.std.proofs.Common.{arith}
 use Rattle.reconstruction.proofs.AllWords.{opening_begun, opening_last}
 use Rattle.reconstruction.proofs.Quick.{quick_begun}
 use Rattle.reconstruction.proofs.Survivors.open_all.Goals as goal

@@ -1,13 +1,9 @@
 -- `reconstruction::Survivors::open_words`: where a word has no polynomial, or too few are left, nothing is found for all words together, and after the last word all is found.
 -- Assumes nothing.
-use Rattle.std.proofs.Common.{◌≡◌, refl, ◌+◌, ◌∙◌, arith, length}
-use Rattle.std.proofs.Math.ListN.{set, length-set}
-use Rattle.members.specs.Members.{own_points}
-use Rattle.reconstruction.specs.Internal.Words.{words}
-use Rattle.reconstruction.proofs.AllWords.{Going, opening_begun, opening_none, opening_few, opening_next, opening-set, opening_enough, opening_last}
+use Rattle.std.proofs.Common.{refl, arith}
+use Rattle.reconstruction.proofs.AllWords.{opening_begun, opening_none, opening_few, opening_next, opening-set, opening_enough, opening_last}
 use Rattle.reconstruction.proofs.Survivors.open_words.Goals as goal
 
--- enough are left, and the value at 0 is stored
 pub loop-k-init : goal.loop-k-init
 loop-k-init c =
     record {

@@ -1,6 +1,5 @@
 -- `reconstruction::Survivors::work_out`: a polynomial that the decoder finds is the word's, and its values are expected.
 -- Assumes nothing.
-use Rattle.std.proofs.Common.{arith}
 use Rattle.reconstruction.proofs.ByWord.{came_none, came_found}
 use Rattle.reconstruction.proofs.Survivors.work_out.Goals as goal
 
