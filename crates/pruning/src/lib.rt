@@ -38,10 +38,10 @@ fn next_short(need: usize, set: u32, counts: &[u32]) -> Option<usize>
 {
     let mut rest = set;
     while let Some(i) = members::lowest(rest) {
+        rest = members::without(rest, i);
         if (counts[i] as usize) < need {
             return Some(i);
         }
-        rest = members::without(rest, i);
     }
     None
 }
