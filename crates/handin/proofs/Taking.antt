@@ -32,7 +32,7 @@ member_inside n m one = omega (arith, within_low 1 n m one, within_high 1 n m on
 module _ (s : Shape) where
   -- the place of a share ends in the buffer
   pub share_room : (m : ℕ) → within 1 s.n m ≡ true → (m - 1) * s.width + s.width ≤ 4867
-  share_room m one = omega (arith, share_inside s (station s) (m - 1) (member_inside s.n m one), (station s).all_fit)
+  share_room m one = omega (arith, share_inside s (m - 1) (member_inside s.n m one), (station s).all_fit)
 
   -- a P line's numbers fit 158 words
   pub narrow : (l : List ℕ) → length l ≡ 158 → length (take (1 + s.width) l) ≡ 1 + s.width

@@ -1,20 +1,16 @@
--- A share from its parts: how long it is, what stands in it, and how its parts are stored one after the other.
+-- A share from its parts: how long it is, what stands in it.
 -- Assumes nothing.
 use mathlib.Core.Path.{◌≡◌, sym, ap, ap₂, ◌∙◌}
 use mathlib.Core.List.{List, ◌++◌, append_assoc}
 use Prim.Native.Nat.{ℕ, ◌+◌, ◌*◌, ◌<◌}
 use native.Mathlib.Omega.{arith}
 use lib.ListN.{length, get_or, length-append, get_or-append}
-use lib.Seq.{sets}
 use Rattle.lists.specs.Tabulate.{tab, concat}
 use Rattle.lists.proofs.Blocks.{get_d_after, get_or-concat, every_append}
 use Rattle.lists.proofs.Every.{Every}
 use Rattle.lists.proofs.Tabulate.{tab_ext, tab-get_or}
-use Rattle.lists.proofs.Stores.{sets_then}
 use Rattle.members.specs.Members.{size}
 use Rattle.shares.specs.Layout.{width, word_place, tag_place, key_place, assembled, word, share_word, share_words, tag_word_at, key_α, key_β}
-use Rattle.shares.specs.Internal.Shape.{Station, stored}
-use Rattle.shares.specs.declared.Shape.{Shape}
 
 module _ (t d : ℕ) (words tags keys : List ℕ) (w : length words ≡ d) (g : length tags ≡ size t) where
   parts : assembled words tags keys ≡ words ++ (tags ++ keys)
@@ -40,21 +36,6 @@ module _ (t d : ℕ) (words tags keys : List ℕ) (w : length words ≡ d) (g : 
       ap₂ (λ (l : List ℕ) (q : ℕ). get_or l q 0) parts place
       ∙ get_d_after words (tags ++ keys) d (size t + k) 0 w
       ∙ get_d_after tags keys (size t) k 0 g
-
--- the parts stored at their places are the share stored
-pub assembled-stored : (s : Shape) (i : ℕ) (words tags keys l l₁ l₂ l₃ : List ℕ) → Station s → length words ≡ s.d → length tags ≡ s.n
-    → l₁ ≡ stored s i (word_place 0) words l → l₂ ≡ stored s i (tag_place s.d 0) tags l₁ → l₃ ≡ stored s i (key_place s.t s.d 0) keys l₂
-    → l₃ ≡ stored s i 0 (assembled words tags keys) l
-unfolding assembled
-assembled-stored s i words tags keys l l₁ l₂ l₃ st w g e₁ e₂ e₃ =
-    let at : ℕ = i * s.width + 0 in
-    let tags_at : i * s.width + tag_place s.d 0 ≡ at + s.d = omega arith in
-    let keys_at : i * s.width + key_place s.t s.d 0 ≡ at + (s.d + s.n) = omega (arith, st.members) in
-    let s₂ : l₂ ≡ sets l at (words ++ tags) =
-    e₂ ∙ ap₂ (λ (m : List ℕ) (r : ℕ). sets m r tags) e₁ tags_at ∙ sym (sets_then l words tags at s.d w) in
-    let long : length (words ++ tags) ≡ s.d + s.n = length-append words tags ∙ ap₂ ◌+◌ w g in
-    e₃ ∙ ap₂ (λ (m : List ℕ) (r : ℕ). sets m r keys) s₂ keys_at
-    ∙ sym (sets_then l (words ++ tags) keys at (s.d + s.n) long)
 
 pub assembled_every : {P : ℕ → Type 0} {words tags keys : List ℕ} → Every P words → Every P tags → Every P keys → Every P (assembled words tags keys)
 unfolding assembled

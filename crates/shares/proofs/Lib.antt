@@ -5,6 +5,5 @@ pub mod Places
 pub mod Reading
 pub mod Same
 pub mod Shapes
-pub mod Storing
 pub mod Tests
 pub mod View

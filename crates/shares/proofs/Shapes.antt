@@ -2,14 +2,12 @@
 -- Assumes nothing.
 use mathlib.Core.Path.{◌≡◌, refl, sym, subst}
 use mathlib.Core.Bool.{true}
-use mathlib.Core.List.{List}
 use Prim.Native.Nat.{ℕ, ◌+◌, ◌*◌, ◌≤◌, ◌<◌}
 use native.Mathlib.Omega.{arith}
-use lib.ListN.{length}
 use Rattle.lists.proofs.Checks.{within_intro, within_low, within_high}
 use Rattle.members.specs.Members.{is_threshold, size}
 use Rattle.shares.specs.Layout.{is_length, width}
-use Rattle.shares.specs.Internal.Shape.{InRange, Station, Room, At}
+use Rattle.shares.specs.Internal.Shape.{InRange, Station}
 use Rattle.shares.specs.declared.Shape.{Shape}
 use Rattle.shares.proofs.Places.{row_inside, all_fit}
 
@@ -50,17 +48,6 @@ shape t d r =
       share = refl;
     }
 
--- the words of a station's shares
-pub room : (s : Shape) (words : List ℕ) → length words ≡ s.n * s.width → Room s words
-room s words e = record { station = station s; long = e }
-
-module _ (s : Shape) (st : Station s) (i : ℕ) (h : i < s.n) where
-  -- one of the shares is among all of them
-  pub share_inside : i * s.width + s.width ≤ s.n * s.width
-  share_inside = row_inside i s.n s.width h
-
-  pub share_small : i * s.width ≤ 4867
-  share_small = omega (arith, share_inside, st.all_fit)
-
-  pub whole_at : At s i 0 s.width (i * s.width)
-  whole_at = record { stands = omega arith; inside = share_inside }
+-- one of the shares is among all of them
+pub share_inside : (s : Shape) (i : ℕ) → i < s.n → i * s.width + s.width ≤ s.n * s.width
+share_inside s i h = row_inside i s.n s.width h

@@ -1,13 +1,9 @@
-// A station's shape, where the words of its shares stand in a buffer, and its days.
+// A station's shape, the words of its members' shares, and its days.
 #![tactic(auto)]
 
 ghost use Rattle.std.specs.Prelude.{◌≡◌, ◌*◌, ◌≤◌, length};
 ghost use Rattle.members.specs.Members.{size};
 ghost use Rattle.shares.specs.Layout.{is_day, width as width_of};
-
-mod old;
-
-pub use old::{key_at, keys_at, shape_of, share_at, tag_at, tags_at, word_at, words_at};
 
 // A day is 1 to 65520.
 pub fn is_day(day: u16) -> bool

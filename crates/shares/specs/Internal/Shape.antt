@@ -1,7 +1,6 @@
--- A station's shape as the code hands it on, and places in a buffer of its shares.
+-- A station's shape as the code hands it on.
 -- Assumes nothing.
-use Rattle.std.specs.Prelude.{ℕ, ◌+◌, ◌*◌, ◌≤◌, ◌≡◌, List, length}
-use Rattle.std.proofs.lemmas.List.Edits.{sets}
+use Rattle.std.specs.Prelude.{ℕ, ◌+◌, ◌*◌, ◌≤◌, ◌≡◌}
 use Rattle.members.specs.Members.{size}
 use Rattle.shares.specs.Layout.{width, capacity}
 use Rattle.shares.specs.declared.Shape.{Shape}
@@ -22,17 +21,3 @@ pub record Station (s : Shape) : Type 0 where
   pub few : s.n ≤ 31
   pub narrow : s.width ≤ 157
   pub all_fit : s.n * s.width ≤ capacity
-
--- the words are n shares of a station
-pub record Room (s : Shape) (words : List ℕ) : Type 0 where
-  pub station : Station s
-  pub long : length words ≡ s.n * s.width
-
--- `count` words of member i's share, from `place` on, begin at `at` and are inside the buffer of all shares
-pub record At (s : Shape) (i place count at : ℕ) : Type 0 where
-  pub stands : at ≡ i * s.width + place
-  pub inside : at + count ≤ s.n * s.width
-
--- a buffer with words stored in member i's share, from a place of it on
-abbrev pub stored : Shape → ℕ → ℕ → List ℕ → List ℕ → List ℕ
-stored s i place words buffer = sets buffer (i * s.width + place) words
