@@ -94,6 +94,7 @@ pub fn rutzebam_tag(alpha: u16, beta: u16, words: &[u16]) -> u16
 }
 
 // The reader of hand-in text.
+#[tactic(auto, unfolding(handin::specs::Answer::answer_of))]
 pub fn rutzebam_read(
     text: &[u8],
     words: &mut [u16],
@@ -126,6 +127,7 @@ pub fn rutzebam_read(
 }
 
 // The writer of hand-in text.
+#[tactic(auto, unfolding(handin::specs::Answer::written_of))]
 pub fn rutzebam_write(
     t: usize,
     d: usize,

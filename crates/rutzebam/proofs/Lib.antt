@@ -1,3 +1,0 @@
--- What is proved of this crate.
-pub mod Calls
-pub mod Numbers
