@@ -168,17 +168,15 @@ impl Survivors<'_> {
         requires { (k < self.now.shares.shape.d) × (length values.old ≡ self.now.shares.shape.n) × (length f.old ≡ suc self.now.shares.shape.t) × (length expected.old ≡ suc self.now.shares.shape.n) }
         ensures { Came (own_points self.now.shares.shape.t) self.now.shares.shape.t (words self.now) self.now.set k result }
     {
-        match self.decode_word(k, values, f) {
-            Err(_) => None,
-            Ok(()) => {
-                evaluate_all(f, expected);
-                Some(Word {
-                    anew: true,
-                    met: self.meeting(k, expected),
-                    value: expected[0],
-                })
-            }
-        }
+        let Ok(()) = self.decode_word(k, values, f) else {
+            return None; // no polynomial
+        };
+        evaluate_all(f, expected);
+        Some(Word {
+            anew: true,
+            met: self.meeting(k, expected),
+            value: expected[0],
+        })
     }
 
     // The same, with room for the values.

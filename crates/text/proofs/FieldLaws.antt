@@ -93,7 +93,12 @@ pub record Stored (all : Option (List ℕ)) (k i : ℕ) (out : List ℕ) (fields
   pub so : all ≡ joined (take i out) (numbers_in (k - i) fields)
 
 pub fields_start : (out : List ℕ) (fields : List (List ℕ)) → Stored (numbers_in (length out) fields) (length out) 0 out fields
-fields_start out fields = record { inside = omega arith; long = refl; so = ap (λ (m : ℕ). numbers_in m fields) {x = length out} {y = length out - 0} (omega arith) ∙ sym (joined-nil (numbers_in (length out - 0) fields)) }
+fields_start out fields =
+    record {
+      inside = omega arith;
+      long = refl;
+      so = ap (λ (m : ℕ). numbers_in m fields) {x = length out} {y = length out - 0} (omega arith) ∙ sym (joined-nil (numbers_in (length out - 0) fields));
+    }
 
 module _ {all : Option (List ℕ)} {k i : ℕ} {out : List ℕ} {fields : List (List ℕ)} (s : Stored all k i out fields) where
   -- all are stored, and no field is left, or one is
@@ -183,10 +188,10 @@ module _ (letter k : ℕ) (line head : List ℕ) (fields : List (List ℕ)) (e :
   unfolding line_of numbers_of is_letter
   line_long ne = rw (e, ne_eqb (length head) 1 ne)
 
-  pub line_other : length head ≡ 1 → (get_or head 0 0 ≡ letter → ⊥) → line_of letter k line ≡ none
+  pub line_other : length head ≡ 1 → {r : Bool} → r ≡ eqb (get_or head 0 0) letter → r ≡ false → line_of letter k line ≡ none
   unfolding line_of numbers_of is_letter
-  line_other one ne = rw (e, eq-eqb (length head) 1 one, ne_eqb (get_or head 0 0) letter ne)
+  line_other one is n = rw (e, eq-eqb (length head) 1 one, sym is ∙ n)
 
-  pub line_fields : length head ≡ 1 → get_or head 0 0 ≡ letter → line_of letter k line ≡ numbers_in k fields
+  pub line_fields : length head ≡ 1 → {r : Bool} → r ≡ eqb (get_or head 0 0) letter → r ≡ true → line_of letter k line ≡ numbers_in k fields
   unfolding line_of numbers_of is_letter numbers_in
-  line_fields one same = rw (e, eq-eqb (length head) 1 one, eq-eqb (get_or head 0 0) letter same)
+  line_fields one is y = rw (e, eq-eqb (length head) 1 one, sym is ∙ y)

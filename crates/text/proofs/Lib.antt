@@ -1,4 +1,5 @@
 -- What is proved of this crate.
+pub mod Bytes
 pub mod Digits
 pub mod Examples
 pub mod FieldLaws

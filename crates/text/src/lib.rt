@@ -1,13 +1,59 @@
 // Bytes of text both ways: numerals, fields and lines, read and printed.
 #![tactic(auto)]
 
-ghost use Rattle.std.specs.Prelude.{◌≡◌, ◌≢◌, ℕ, cond, [], ◌∷◌, ◌++◌, map, ◌+◌, ◌*◌, ◌<◌, ◌≤◌, leb, Some, None, length, slice_index, EachIndex, MatchOption, IfSome};
+ghost use Rattle.std.specs.Prelude.{◌≡◌, ◌≢◌, ℕ, cond, [], ◌∷◌, ◌++◌, map, ◌+◌, ◌*◌, ◌<◌, ◌≤◌, eqb, leb, Some, None, length, slice_index, EachIndex, MatchOption, IfSome};
 ghost use Rattle.std.specs.Option.{option_copied};
 ghost use Rattle.std.proofs.Math.Option.{some, none};
 ghost use Rattle.lists.specs.Tabulate.{concat};
-ghost use Rattle.text.specs.Lines.{parts, line_of, digits, field, line};
+ghost use Rattle.text.specs.Lines.{is_digit, parts, line_of, digits, field, line};
+ghost use Rattle.text.specs.Internal.Kinds.{kind_of};
 ghost use Rattle.text.specs.Internal.Scanning.{fields_left, numeral_of};
 ghost use Rattle.text.specs.Internal.Writing.{Written};
+
+// What a byte is.
+#[derive(Clone, Copy)]
+enum Kind {
+    Digit,
+    Tab,
+    End,
+    Letter,
+    Other,
+}
+
+fn sort(b: u8) -> Kind
+    ensures { result ≡ kind_of b }
+{
+    match b {
+        b'0'..=b'9' => Kind::Digit,
+        b'\t' => Kind::Tab,
+        b'\n' => Kind::End,
+        b'D' | b'P' => Kind::Letter,
+        _ => Kind::Other,
+    }
+}
+
+fn is_digit(b: u8) -> bool
+    ensures { result ≡ is_digit b }
+{
+    match sort(b) {
+        Kind::Digit => true,
+        Kind::Tab => false,
+        Kind::End => false,
+        Kind::Letter => false,
+        Kind::Other => false,
+    }
+}
+
+// Whether a byte is this mark.
+fn is_mark(b: u8, mark: u8) -> bool
+    ensures { result ≡ eqb b mark }
+{
+    match sort(b) {
+        Kind::Tab => mark == b'\t',
+        Kind::End => mark == b'\n',
+        Kind::Digit | Kind::Letter | Kind::Other => b == mark,
+    }
+}
 
 // The place of the first byte that is this one.
 fn place(bytes: &[u8], separator: u8) -> Option<usize>
@@ -15,7 +61,7 @@ fn place(bytes: &[u8], separator: u8) -> Option<usize>
         (EachIndex bytes.now (λ k. slice_index bytes.now k ≢ separator))
         (λ i. (i < length bytes.now) × ((slice_index bytes.now i ≡ separator) × ((k : ℕ) → k < i → slice_index bytes.now k ≢ separator))) }
 {
-    bytes.iter().position(|b| *b == separator)
+    bytes.iter().position(|b| is_mark(*b, separator))
 }
 
 // The part before the first separator, and the bytes after it.
@@ -61,7 +107,7 @@ fn numeral(field: &[u8]) -> Option<u16>
     }
     let mut value: u32 = 0;
     for b in field {
-        if !b.is_ascii_digit() {
+        if !is_digit(*b) {
             return None;
         }
         value = 10 * value + (*b - b'0') as u32;
@@ -78,7 +124,7 @@ pub fn numbers(line: &[u8], letter: u8, out: &mut [u16]) -> bool
     if head.len() != 1 {
         return false;
     }
-    if head[0] != letter {
+    if !is_mark(head[0], letter) {
         return false;
     }
     for number in out.iter_mut() {

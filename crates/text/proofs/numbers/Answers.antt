@@ -10,14 +10,14 @@ pub returns-then-head-ne1 : goal.returns-then-head-ne1
 returns-then-head-ne1 c =
     line_long c.args.letter (length c.args.out.now) c.args.line.now c.first_field.result.0.now _ c.first_field.ensures c.if-head-ne1.true
 
-pub returns-then-head-letter : goal.returns-then-head-letter
-returns-then-head-letter c =
-    line_other c.args.letter (length c.args.out.now) c.args.line.now c.first_field.result.0.now _ c.first_field.ensures c.if-head-ne1.false c.if-head-letter.true
+pub returns-then-not-is_mark : goal.returns-then-not-is_mark
+returns-then-not-is_mark c =
+    line_other c.args.letter (length c.args.out.now) c.args.line.now c.first_field.result.0.now _ c.first_field.ensures c.if-head-ne1.false c.is_mark.ensures c.if-not-is_mark.true
 
 pub loop-number-init : goal.loop-number-init
 loop-number-init c =
     let (out, line) : List ℕ × List ℕ = (c.args.out.now, c.args.line.now) in
-    rw (line_fields c.args.letter (length out) line c.first_field.result.0.now (fields_left (option_copied c.first_field.result.1)) c.first_field.ensures c.if-head-ne1.false c.if-head-letter.false)
+    rw (line_fields c.args.letter (length out) line c.first_field.result.0.now (fields_left (option_copied c.first_field.result.1)) c.first_field.ensures c.if-head-ne1.false c.is_mark.ensures c.if-not-is_mark.false)
     (fields_start out (fields_left (option_copied c.first_field.result.1)))
 
 pub returns-in_default : goal.returns-in_default

@@ -18,8 +18,8 @@ returns-then-field-eq48 c = numeral_zero c.args.field.now (omega arith) (search 
 pub loop-b-init : goal.loop-b-init
 loop-b-init c = valued_none c.args.field.now
 
-pub returns-then-not-is_ascii_digit : goal.returns-then-not-is_ascii_digit
-returns-then-not-is_ascii_digit c =
+pub returns-then-not-is_digit : goal.returns-then-not-is_digit
+returns-then-not-is_digit c =
     let other : is_digit (get_or c.args.field.now c.loop-b.b-index 0) ≡ false = search rules in
     numeral_bad c.args.field.now c.loop-b.b-index (omega arith) other
 

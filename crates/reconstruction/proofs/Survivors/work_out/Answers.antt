@@ -3,9 +3,8 @@
 use Rattle.reconstruction.proofs.ByWord.{came_none, came_found}
 use Rattle.reconstruction.proofs.Survivors.work_out.Goals as goal
 
-pub returns-in-Err : goal.returns-in-Err
-returns-in-Err c = came_none c.args.self.now _ c.requires.0 _ _ c.in-Err.ensures
+pub returns-in_default : goal.returns-in_default
+returns-in_default c = came_none c.args.self.now _ c.requires.0 _ _ c.in_default.ensures
 
-pub returns-in-Ok : goal.returns-in-Ok
-returns-in-Ok c =
-    came_found c.args.self.now _ c.requires.0 _ c.in-Ok.ensures c.requires.3 c.evaluate_all.ensures c.meeting.ensures
+pub returns : goal.returns
+returns c = came_found c.args.self.now _ c.requires.0 _ c.in-Ok.ensures c.requires.3 c.evaluate_all.ensures c.meeting.ensures
