@@ -84,18 +84,19 @@ fn powers(points: &[u16; 32], rows: &mut [[u16; 32]; 8])
     }
 }
 
-// The value at each of 32 points of the polynomial with these coefficients.
+// The value at each of 32 points of the polynomial with these coefficients. The lanes are an array of its own, so that the compiler knows that nothing else is written.
 pub fn evaluate_at(words: &[u16], points: &[u16; 32], values: &mut [u16; 32])
     ensures { values.new ≡ tab 32 (λ j. value words.now (get_or points.now j 0)) }
 {
     let (eights, odd) = words.as_chunks::<8>();
-    values.fill(0);
+    let mut lanes = [0; 32];
     for word in odd.iter().rev() {
-        one(*word, points, values);
+        one(*word, points, &mut lanes);
     }
     let mut rows = [[0u16; 32]; 8];
     powers(points, &mut rows);
     for eight in eights.iter().rev() {
-        block(eight, &rows, values);
+        block(eight, &rows, &mut lanes);
     }
+    *values = lanes;
 }

@@ -1,6 +1,6 @@
 -- `lanes::evaluate_at`: one word more, and eight words more; at the end they are all the words.
 -- Assumes nothing.
-use Rattle.std.proofs.Common.{◌*◌, ◌/◌, ◌++◌, length, map, reverse, drop, sym, ap, ◌∙◌, append_assoc, replicate, rules}
+use Rattle.std.proofs.Common.{◌*◌, ◌/◌, ◌++◌, length, map, reverse, drop, sym, ap, ◌∙◌, append_assoc}
 use Rattle.std.proofs.lemmas.Iterator.Adapters.{YieldsList-from_rev_slice}
 use Rattle.std.proofs.lemmas.Iterator.Consumers.{YieldsList-turn, YieldsList-end}
 use Rattle.std.proofs.lemmas.List.{reverse-reverse}
@@ -9,9 +9,7 @@ use Rattle.lanes.proofs.Values.{values_at, values_none, values_one, values_eight
 use Rattle.lanes.proofs.evaluate_at.Goals as goal
 
 pub loop-word-init : goal.loop-word-init
-loop-word-init c =
-    let zeros = c.fill.ensures.after (λ y e. search rules) in
-    zeros ∙ ap (λ n. replicate n 0) {y = 32} (search rules) ∙ values_none c.args.points.now
+loop-word-init c = values_none c.args.points.now
 
 pub loop-word-preserved : goal.loop-word-preserved
 loop-word-preserved c =

@@ -6,7 +6,7 @@ use Rattle.lanes.proofs.Values.{values_at}
 use Rattle.lanes.proofs.evaluate_at.Given as goal
 
 abbrev pub invariant-loop-word : goal.invariant-loop-word
-invariant-loop-word l = l.values ≡ values_at (reverse (map (λ w. w.now) l.yielded)) l.points
+invariant-loop-word l = l.lanes ≡ values_at (reverse (map (λ w. w.now) l.yielded)) l.points
 
 abbrev pub invariant-loop-eight : goal.invariant-loop-eight
-invariant-loop-eight l = l.values ≡ values_at (concat (reverse (map (λ e. e.now) l.yielded)) ++ drop (length l.words / 8 * 8) l.words) l.points
+invariant-loop-eight l = l.lanes ≡ values_at (concat (reverse (map (λ e. e.now) l.yielded)) ++ drop (length l.words / 8 * 8) l.words) l.points
