@@ -1,8 +1,7 @@
 // Dealing: secret and random words to the members' shares for a day.
 #![tactic(auto)]
 
-ghost use Rattle.std.specs.Prelude.{◌≡◌, ℕ, ◌*◌, suc, ◌<◌, ◌∷◌, length, take, MatchResult};
-ghost use Rattle.lists.specs.Tabulate.{tab};
+ghost use Rattle.std.specs.Prelude.{◌≡◌, ℕ, ◌*◌, suc, ◌<◌, ◌∷◌, length, MatchResult};
 ghost use Rattle.polynomial.specs.Polynomial.{value};
 ghost use Rattle.members.specs.Members.{own_points};
 ghost use Rattle.refusals.specs.Refusals.{number};
@@ -54,7 +53,7 @@ impl Supply<'_> {
         requires { length words.old ≡ self.now.shape.d }
         ensures { words.new ≡ words_at self.now.shape.t self.now.secret.now self.now.random.now x }
     {
-        if !shares::is_large(self.shape) {
+        if !shares::is_large(self.shape.t, self.shape.d) {
             self.fill_words_by(value_at, x, words);
             return;
         }
@@ -112,20 +111,6 @@ impl Supply<'_> {
         }
     }
 
-    // Everybody's keys for member i: key(k,i) at place k.
-    #[tactic(auto, using(lists::proofs::Loops::writes))]
-    fn gather_keys(&self, i: usize, alphas: &mut [u16; 32], betas: &mut [u16; 32])
-        requires { i < self.now.shape.n }
-        ensures alphas_of { take self.now.shape.n alphas.new ≡ tab self.now.shape.n (λ k. dealt_α self.now.shape.t self.now.shape.d self.now.random.now k i) }
-        ensures betas_of { take self.now.shape.n betas.new ≡ tab self.now.shape.n (λ k. dealt_β self.now.shape.t self.now.shape.d self.now.random.now k i) }
-    {
-        for k in 0..self.shape.n {
-            let key = self.key(k, i);
-            alphas[k] = key.alpha;
-            betas[k] = key.beta;
-        }
-    }
-
     // Member i's tags of the day and its share words, all at once.
     fn fill_tags_at_once(&self, i: usize, words: &[u16], tags: &mut [u16])
         requires { (i < self.now.shape.n) × (length tags.old ≡ self.now.shape.n) }
@@ -134,7 +119,7 @@ impl Supply<'_> {
         let mut alphas = [0u16; 32];
         let mut betas = [0u16; 32];
         let mut made = [0u16; 32];
-        self.gather_keys(i, &mut alphas, &mut betas);
+        shares::gather_keys(self.shape.n, |k| self.key(k, i), &mut alphas, &mut betas);
         mac::tags_with_first(&alphas, &betas, self.day, words, &mut made);
         tags.copy_from_slice(&made[..self.shape.n]);
     }
@@ -144,7 +129,7 @@ impl Supply<'_> {
         requires { (i < self.now.shape.n) × (length tags.old ≡ self.now.shape.n) }
         ensures { tags.new ≡ tags_of self.now.shape.t self.now.shape.d self.now.day self.now.random.now i words.now }
     {
-        if shares::is_large(self.shape) {
+        if shares::is_large(self.shape.t, self.shape.d) {
             self.fill_tags_at_once(i, words, tags);
         } else {
             self.fill_tags_singly(i, words, tags);

@@ -41,7 +41,7 @@ pub fn whole_product(a: u16, b: u16) -> u64
     a as u64 * b as u64
 }
 
-// c + a · b, with one reduction
+// c + a · b, with one reduction. It works with 32 bits, which inner loops need: `add_products` takes 64.
 #[tactic(auto, using(crate::proofs::Operations::once))]
 pub fn add_product(c: u16, a: u16, b: u16) -> u16
     ensures { result ≡ sum c (product a b) }
@@ -62,14 +62,6 @@ pub fn add_products<const N: usize>(c: u16, a: &[u16; N], b: &[u16; N]) -> u16
     (total % 65521) as u16
 }
 
-// c plus the two products a · b, with one reduction
-#[tactic(auto, unfolding(crate::specs::Internal::Dot::dot))]
-pub fn add_two_products(c: u16, a0: u16, b0: u16, a1: u16, b1: u16) -> u16
-    ensures { result ≡ (c + a0 * b0 + a1 * b1) % prime }
-{
-    add_products(c, &[a0, a1], &[b0, b1])
-}
-
 // low + 2^16 · high modulo p, since 2^16 is 15 modulo p. Long sums of products are kept as sums of their low and of their high 16 bits: both fit 32 bits,
 // and so they are made for several places at once.
 pub fn join_halves(low: u32, high: u32) -> u16
@@ -79,7 +71,7 @@ pub fn join_halves(low: u32, high: u32) -> u16
     ((low + 15 * high) % 65521) as u16
 }
 
-// The sum of the products of two lists, place by place, with one reduction.
+// The sum of the products of two lists, place by place, with one reduction. One index serves both: with `zip` the compiler uses no vectors.
 #[tactic(auto, using(crate::proofs::Dot::adding))]
 pub fn inner_product(a: &[u16], b: &[u16]) -> u16
     requires { (length a.now ≡ length b.now) × (length a.now ≤ 64) }
@@ -87,8 +79,8 @@ pub fn inner_product(a: &[u16], b: &[u16]) -> u16
 {
     let mut low: u32 = 0;
     let mut high: u32 = 0;
-    for (x, y) in a.iter().zip(b) {
-        let product = *x as u32 * *y as u32;
+    for (i, x) in a.iter().enumerate() {
+        let product = *x as u32 * b[i] as u32;
         low += product % 65536;
         high += product / 65536;
     }
@@ -151,9 +143,14 @@ pub fn is_field_word(word: u16) -> bool
     word < 65521
 }
 
-// Every word is a field word.
+// Every word is a field word. All are tested, so that the compiler tests several at once.
+#[tactic(auto, using(lists::proofs::Loops::tests))]
 pub fn are_field_words(words: &[u16]) -> bool
     ensures { result ≡ each is_field_word words.now }
 {
-    words.iter().all(|word| is_field_word(*word))
+    let mut all = true;
+    for word in words {
+        all &= is_field_word(*word);
+    }
+    all
 }

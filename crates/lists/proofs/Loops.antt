@@ -1,6 +1,6 @@
 -- Loops that go over a list and write each place: by the place i, the first i places are f 0, .., f (i − 1), and the others are as they were.
 -- Assumes nothing.
-use Rattle.std.proofs.Common.{◌≡◌, ◌↔◌, ℕ, zero, suc, Bool, true, IsTrue, All, ◌+◌, ◌<◌, List, [], ◌∷◌, ◌++◌, length, take, drop, refl, sym, ap, ◌∙◌, arith}
+use Rattle.std.proofs.Common.{◌≡◌, ◌↔◌, ℕ, zero, suc, Bool, true, false, ◌&&◌, ◌≤◌, IsTrue, All, ◌+◌, ◌<◌, List, [], ◌∷◌, ◌++◌, length, take, drop, refl, sym, ap, ◌∙◌, arith}
 use native.Mathlib.Nat.{le_of_suc-le-suc}
 use Prim.Native.Nat.{suc-le-suc}
 use Rattle.std.proofs.Math.ListN.{set, get_or}
@@ -59,3 +59,33 @@ each_from_all {A = A} p xs r h = same_test r (each p xs) (λ e. intro xs (h.0 e)
     at [] e k d b = absurd (omega arith)
     at (x ∷ l) e zero d b = and_left (p x) (each p l) e
     at (x ∷ l) e (suc k) d b = at l (and_right (p x) (each p l) e) k d (le_of_suc-le-suc b)
+
+-- a loop that asks each element for a test, and keeps whether all have passed
+module _ {A : Type 0} (p : A → Bool) where
+  pub tested_none : true ≡ each p []
+  unfolding each
+  tested_none = refl
+
+  -- one element more
+  pub tested_next : (xs : List A) (i n : ℕ) (d : A) (r u : Bool) → n ≡ i + 1 → i < length xs → r ≡ each p (take i xs) → u ≡ p (get_or xs i d) → r && u ≡ each p (take n xs)
+  unfolding each
+  tested_next xs i n d r u e h t q = ap (λ (b : Bool). b && u) t ∙ ap (λ (b : Bool). each p (take i xs) && b) q ∙ sym (step xs i h) ∙ ap (λ (m : ℕ). each p (take m xs)) (let one : suc i ≡ n = omega (arith, e) in one)
+    where
+      first : (b : Bool) → b && true ≡ b
+      first true = refl
+      first false = refl
+
+      after : (a b c : Bool) {e : Bool} → e ≡ b && c → a && e ≡ (a && b) && c
+      after true b c h = h
+      after false b c h = refl
+
+      step : (l : List A) (k : ℕ) → k < length l → each p (take (suc k) l) ≡ each p (take k l) && p (get_or l k d)
+      step [] k less = absurd (omega arith)
+      step (x ∷ l) zero less = first (p x)
+      step (x ∷ l) (suc k) less = after (p x) (each p (take k l)) (p (get_or l k d)) (step l k (le_of_suc-le-suc less))
+
+  -- all of them
+  pub tested_last : (xs : List A) (i : ℕ) (r : Bool) → length xs ≤ i → r ≡ each p (take i xs) → r ≡ each p xs
+  tested_last xs i r h t = t ∙ ap (each p) (take_all i xs h)
+
+pub ruleset tests = (tested_none, tested_next, tested_last)

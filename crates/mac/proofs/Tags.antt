@@ -1,7 +1,7 @@
 -- Laws of tags: a tag is a field word, one Horner step over the words' polynomial, and another where the first word is another.
 -- Assumes nothing.
 use mathlib.Core.Path.{◌≡◌, sym, ap, ◌∙◌}
-use mathlib.Core.List.{List, ◌∷◌}
+use mathlib.Core.List.{List, [], ◌∷◌}
 use Prim.Native.Nat.{ℕ, ◌+◌, ◌*◌, ◌%◌, ◌<◌}
 use native.Mathlib.Omega.{arith}
 use lib.ListN.{get_or, drop}
@@ -10,6 +10,7 @@ use Rattle.lists.proofs.Loops.{tab_none, written_next, read_kept, kept_next}
 use Rattle.lists.proofs.Tabulate.{get_or-tab}
 use Rattle.lanes.proofs.Arrays.{rewritten_last}
 use Rattle.field.specs.Field.{prime, sum, product}
+use Rattle.field.specs.Internal.Dot.{dot}
 use Rattle.field.proofs.Congruence.{◌≈◌, same_refl, same_sym, same_trans, same_eq, eq_same, reduced, times, ◌⊕◌, ◌⊗◌, lc}
 use Rattle.field.proofs.Operations.{mod-word, sum_same, sum-word, product_same}
 use Rattle.field.proofs.Fermat.{cancel}
@@ -49,14 +50,15 @@ tag-first α β a b ms some e =
     lc (same_refl {a = x}) (cancel α some scaled)
 
 -- the first word at power 1 and the rest from power 2 on, as the code adds them
-pub tag_by_products : (α β a s v r : ℕ) (ms : List ℕ) → s ≡ product α α → v ≡ value ms α → r ≡ (β + α * a + s * v) % prime → r ≡ tag α β (a ∷ ms)
-unfolding eval
+pub tag_by_products : (α β a s v r : ℕ) (ms : List ℕ) → s ≡ product α α → v ≡ value ms α → r ≡ (β + dot (α ∷ s ∷ []) (a ∷ v ∷ [])) % prime → r ≡ tag α β (a ∷ ms)
+unfolding eval dot
 tag_by_products α β a s v r ms es ev er =
     let x : ℕ = eval ms α in
     let square : s ≈ α * α = same_trans (same_eq es) (product_same α α) in
     let rest : s * v ≈ α * α * x = square ⊗ same_trans (same_eq ev) (value_same ms α) in
     let sum : β + α * a + s * v ≈ β + α * a + α * α * x = same_refl {a = β + α * a} ⊕ rest in
     er
+    ∙ ap (λ (n : ℕ). n % prime) (omega arith)
     ∙ eq_same (mod-word (β + α * a + s * v)) (tag_word α β (a ∷ ms))
     (same_trans (reduced (β + α * a + s * v)) (same_trans sum (same_trans (same_eq (omega arith)) (same_sym (tag_same α β (a ∷ ms))))))
 

@@ -20,7 +20,7 @@ pub fn tag_with_first(alpha: u16, beta: u16, first: u16, rest: &[u16]) -> u16
 {
     let square = field::multiply(alpha, alpha);
     let value = polynomial::evaluate(rest, alpha);
-    field::add_two_products(beta, alpha, first, square, value)
+    field::add_products(beta, &[alpha, square], &[first, value])
 }
 
 // Under 32 keys at once, the tags of a first word and the rest, which need not stand together: the first has power 1, and the rest begin at power 2.

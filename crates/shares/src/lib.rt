@@ -1,7 +1,8 @@
 // A station's shape, the words of its members' shares, and its days.
 #![tactic(auto)]
 
-ghost use Rattle.std.specs.Prelude.{◌≡◌, ◌*◌, ◌≤◌, length};
+ghost use Rattle.std.specs.Prelude.{◌≡◌, ℕ, ◌*◌, ◌≤◌, ◌<◌, length, take};
+ghost use Rattle.lists.specs.Tabulate.{tab};
 ghost use Rattle.members.specs.Members.{size};
 ghost use Rattle.shares.specs.Layout.{is_day, width as width_of};
 
@@ -59,7 +60,6 @@ pub struct Shares<'a> {
 }
 
 impl<'a> Shares<'a> {
-    ghost use Rattle.std.specs.Prelude.{◌<◌};
     ghost use Rattle.shares.specs.Layout.{share, share_word, share_words, tag_word_at, key_α, key_β};
 
     // Member i's share.
@@ -113,10 +113,27 @@ impl<'a> Shares<'a> {
     }
 }
 
-// So many members and words that it is quicker to make their share words by powers and their tags under all keys at once. Both ways answer the same.
-pub fn is_large(s: Shape) -> bool {
-    if s.t < 8 {
-        return false;
+// The keys of the first n members, by whatever gives one: α at each place of one array and β at each place of the other, since lanes take each in one piece.
+pub fn gather_keys<F: Fn(usize) -> Key>(
+    n: usize,
+    key: F,
+    alphas: &mut [u16; 32],
+    betas: &mut [u16; 32],
+)
+    requires few { n ≤ 32 }
+    requires callable { (k : ℕ) → k < n → F.pre key k }
+    ensures { (α β : ℕ → ℕ) → ((k : ℕ) (r : _) → k < n → F.post key k r → (r.alpha ≡ α k) × (r.beta ≡ β k))
+        → (take n alphas.new ≡ tab n α) × (take n betas.new ≡ tab n β) }
+{
+    for k in 0..n {
+        let key = key(k);
+        alphas[k] = key.alpha;
+        betas[k] = key.beta;
     }
-    8 <= s.d
+}
+
+// So many members and words that it is quicker to make their share words by powers and their tags under all keys at once. Both ways answer the same, and a
+// test for each is plainer than closures handed down.
+pub fn is_large(t: usize, d: usize) -> bool {
+    8 <= t && 8 <= d
 }

@@ -35,11 +35,11 @@ kind_other : (b : ℕ) → is_digit b ≡ false → (b ≡ 9 → ⊥) → (b ≡
 unfolding kind_of
 kind_other b d n9 n10 n = rw (d, ne_eqb b 9 n9, ne_eqb b 10 n10, ne_eqb b 68 (λ e. n (inl e)), ne_eqb b 80 (λ e. n (inr e)))
 
-pub kind_below : (b : ℕ) → b < 48 → (b ≡ 9 → ⊥) → (b ≡ 10 → ⊥) → ((b ≡ 68) ⊎ (b ≡ 80) → ⊥) → Other ≡ kind_of b
-kind_below b h n9 n10 n = kind_other b (rw (lt-leb 48 b h)) n9 n10 n
+pub kind_rest : (b : ℕ) → (b < 48) ⊎ (58 ≤ b) → (b ≡ 9 → ⊥) → (b ≡ 10 → ⊥) → ((b ≡ 68) ⊎ (b ≡ 80) → ⊥) → Other ≡ kind_of b
+kind_rest b (inl h) n9 n10 n = kind_other b (rw (lt-leb 48 b h)) n9 n10 n
+kind_rest b (inr h) n9 n10 n = kind_other b (rw (le-leb 48 b (omega arith), lt-leb b 57 (omega arith))) n9 n10 n
 
-pub kind_above : (b : ℕ) → 58 ≤ b → (b ≡ 9 → ⊥) → (b ≡ 10 → ⊥) → ((b ≡ 68) ⊎ (b ≡ 80) → ⊥) → Other ≡ kind_of b
-kind_above b h n9 n10 n = kind_other b (rw (le-leb 48 b (omega arith), lt-leb b 57 (omega arith))) n9 n10 n
+pub ruleset kinds = (kind_digit, kind_tab, kind_end, kind_letter, kind_rest)
 
 -- the kind says whether it is a digit
 abbrev pub is_digit_kind : Kind → Bool

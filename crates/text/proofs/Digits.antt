@@ -4,8 +4,8 @@ use mathlib.Core.Path.{◌≡◌, sym, ap, ◌∙◌}
 use mathlib.Core.Logic.{◌⊎◌, inl, inr}
 use mathlib.Core.Bool.{Bool, true, false}
 use mathlib.Core.List.{List, [], ◌∷◌, ◌++◌}
-use Prim.Native.Nat.{ℕ, zero, suc, ◌+◌, ◌/◌, ◌%◌, ◌-◌, ◌^◌, ◌≤◌, ◌<◌, zero-le, suc-le-suc}
-use native.Mathlib.Nat.{pow-suc, div-lt_iff_lt-mul}
+use Prim.Native.Nat.{ℕ, zero, suc, ◌+◌, ◌*◌, ◌/◌, ◌%◌, ◌-◌, ◌^◌, ◌≤◌, ◌<◌, zero-le, suc-le-suc}
+use native.Mathlib.Nat.{pow-suc, one-le-pow, not-suc-le-zero, le_of_suc-le-suc, div-lt_iff_lt-mul, le-div_iff_mul-le}
 use native.Mathlib.Omega.{arith}
 use borrow.Author.Tests.{ltb-true, ltb-false, lt-ltb, le-ltb}
 use lib.Dec.{ltb}
@@ -69,8 +69,24 @@ has_digit n fits = elim (test (ltb n 10)) [
   | inr e ↦ omega (arith, one_more n (ltb-false n 10 e) fits)
 ]
 
--- for a loop that counts digits
-pub ruleset counting = (digits-one, one_more, at_most_ten, has_digit)
+-- a number from 10 to the power k on, and below ten times that, has k + 1 digits
+pub digits_exact : (k f n : ℕ) → k < f → 10 ^ k ≤ n → n < 10 ^ suc k → length (digits f n) ≡ suc k
+digits_exact k zero n less low high = absurd (not-suc-le-zero less)
+digits_exact zero (suc f) n less low high = ap length (single f n high)
+digits_exact (suc k) (suc f) n less low high =
+    let tenth_low : 10 ^ k ≤ n / 10 = (le-div_iff_mul-le (suc-le-suc zero-le)).1 (rw pow-suc at low) in
+    let ten : 10 ≤ n = let (step, some) : (10 ^ suc k ≡ 10 ^ k * 10) × (1 ≤ 10 ^ k) = (pow-suc 10 k, one-le-pow k 10 (suc-le-suc zero-le)) in omega (arith, low, step, some) in
+    ap length (several f n ten)
+    ∙ length-append (digits f (n / 10)) ((48 + n % 10) ∷ [])
+    ∙ omega (arith, digits_exact k f (n / 10) (le_of_suc-le-suc less) tenth_low (tenth (suc k) n high))
+
+-- how many digits a number has, by its whole logarithm
+pub digits_by_power : (k n : ℕ) → k < 10 → 10 ^ k ≤ n → n < 10 * 10 ^ k → length (digits 10 n) ≡ k + 1
+digits_by_power k n less low high =
+    let most : n < 10 ^ suc k = rw pow-suc (omega arith) in
+    omega (arith, digits_exact k 10 n less low most)
+
+pub ruleset counting = (digits-one, digits_by_power, at_most_ten)
 
 -- digits stored from the last down: those of the rest are left to store, before place i
 pub record Left (n at : ℕ) (before output : List ℕ) (i rest : ℕ) : Type 0 where

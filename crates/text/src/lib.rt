@@ -20,15 +20,19 @@ enum Kind {
     Other,
 }
 
+// By a range for the digits and single values for the rest. The rest has a match of its own, since a digit is then known by the range alone.
+#[tactic(auto, using(crate::proofs::Bytes::kinds))]
 fn sort(b: u8) -> Kind
     ensures { result ≡ kind_of b }
 {
     match b {
         b'0'..=b'9' => Kind::Digit,
-        b'\t' => Kind::Tab,
-        b'\n' => Kind::End,
-        b'D' | b'P' => Kind::Letter,
-        _ => Kind::Other,
+        rest => match rest {
+            b'\t' => Kind::Tab,
+            b'\n' => Kind::End,
+            b'D' | b'P' => Kind::Letter,
+            _ => Kind::Other,
+        },
     }
 }
 
@@ -147,13 +151,10 @@ fn count_digits(n: u32) -> usize
     ensures exact { result ≡ length (digits 10 n) }
     ensures few { result ≤ 10 }
 {
-    let mut count = 1;
-    let mut left = n;
-    while 9 < left {
-        left = left / 10;
-        count += 1;
+    match n.checked_ilog10() {
+        Some(power) => power as usize + 1,
+        None => 1, // the number is 0
     }
-    count
 }
 
 // How many bytes the fields of numbers have.

@@ -30,8 +30,8 @@ use Rattle.voting.specs.declared.Pairs as code_pairs
 use Rattle.voting.specs.declared.Counted.{Counted}
 use Rattle.voting.specs.Votes.{field_share, tag_holds, Vote, accepted, mismatched, unread, vote, is_of, accepts, vote_rows, vote_table, Pairs, no_pairs, count_of, kinds, pairs}
 use Rattle.voting.specs.Answer.{vote_of, pairs_of}
-use Rattle.voting.specs.Internal.Counting.{together, Counts}
-use Rattle.voting.specs.Internal.Expected.{Expected, vote_against}
+use Rattle.voting.specs.Internal.Counting.{together, voted, Tests, Counts}
+use Rattle.voting.specs.Internal.Expected.{Expected}
 use Rattle.voting.proofs.Counts.{kinds-append, total, kinds_total}
 use Rattle.voting.proofs.Meaning.{accepts_is}
 
@@ -80,83 +80,45 @@ empty_row t d day able words i e =
     set_of_none (size t) (λ j. accepts t d day able words j i)
     (λ j l. accepts_is t d day able words j i ∙ ap (λ (b : Bool). b && has able j && tag_holds t d day words i j) e)
 
--- the test of one tag, as the code makes it: is the member usable, is the voter, is the tag what it has to be
-module _ (t d able : ℕ) (words tags : List ℕ) (i j : ℕ) where
-  pub unusable_member : (a : Bool) → a ≡ has able i → not a ≡ true → vote_of Unread ≡ vote_against t d able words tags j i
-  unfolding vote_of vote_against
-  unusable_member a ea h = sym (rw (fails a (has able i) ea h))
+-- a vote by its three tests: is the member usable, is the voter, is the tag the right one
+module _ (able i j : ℕ) (b : Bool) where
+  pub unusable_member : (a : Bool) → a ≡ has able i → a ≡ false → vote_of Unread ≡ cond (has able i && has able j) (cond b accepted mismatched) unread
+  unfolding vote_of
+  unusable_member a ea h = sym (rw (sym ea ∙ h))
 
-  pub unusable_voter : (b : Bool) → b ≡ has able j → not b ≡ true → vote_of Unread ≡ vote_against t d able words tags j i
-  unfolding vote_of vote_against
-  unusable_voter b eb h = sym (rw (and_no (has able i) (has able j) (fails b (has able j) eb h)))
+  pub unusable_voter : (a : Bool) → a ≡ has able j → a ≡ false → vote_of Unread ≡ cond (has able i && has able j) (cond b accepted mismatched) unread
+  unfolding vote_of
+  unusable_voter a ea h = sym (rw (and_no (has able i) (has able j) (sym ea ∙ h)))
 
-module _ (t d able : ℕ) (words tags : List ℕ) (i j : ℕ) (a : Bool) (ea : a ≡ has able i) (ha : not a ≡ false)
-    (b : Bool) (eb : b ≡ has able j) (hb : not b ≡ false) (w : ℕ) (ew : w ≡ tag_word_at t d words i j) where
-  pub tag_mismatched : (w ≡ get_or tags j 0 → ⊥) → vote_of Mismatched ≡ vote_against t d able words tags j i
-  unfolding vote_of vote_against
-  tag_mismatched h =
-      sym (rw (
-        passes a (has able i) ea ha,
-        passes b (has able j) eb hb,
-        ne_eqb (tag_word_at t d words i j) (get_or tags j 0) (λ e. h (ew ∙ e)),
-      ))
+  module _ (a : Bool) (ea : a ≡ has able i) (ha : a ≡ true) (v : Bool) (ev : v ≡ has able j) (hv : v ≡ true) (h : Bool) (told : has able i ≡ true → h ≡ b) where
+    pub tag_mismatched : h ≡ false → vote_of Mismatched ≡ cond (has able i && has able j) (cond b accepted mismatched) unread
+    unfolding vote_of
+    tag_mismatched n = sym (rw (sym ea ∙ ha, sym ev ∙ hv, sym (told (sym ea ∙ ha)) ∙ n))
 
-  pub tag_accepted : w ≡ get_or tags j 0 → vote_of Accepted ≡ vote_against t d able words tags j i
-  unfolding vote_of vote_against
-  tag_accepted h =
-      sym (rw (
-        passes a (has able i) ea ha,
-        passes b (has able j) eb hb,
-        eq-eqb (tag_word_at t d words i j) (get_or tags j 0) (sym ew ∙ h),
-      ))
+    pub tag_accepted : h ≡ true → vote_of Accepted ≡ cond (has able i && has able j) (cond b accepted mismatched) unread
+    unfolding vote_of
+    tag_accepted n = sym (rw (sym ea ∙ ha, sym ev ∙ hv, sym (told (sym ea ∙ ha)) ∙ n))
 
--- the votes by the tags that a usable member has to have are the definition's
-same_vote : (s : Shape) (day able : ℕ) (words tags : List ℕ) (i j : ℕ) → j < s.n → (has able i ≡ true → Expected s day words i tags)
-    → vote_against s.t s.d able words tags j i ≡ vote s.t s.d day able words j i
-unfolding vote_against vote tag_holds
-same_vote s day able words tags i j l h =
-    elim (test (has able i)) [
-      | inl e ↦
-          ap (λ (v : ℕ). cond (has able i && has able j) (cond (eqb (tag_word_at s.t s.d words i j) v) accepted mismatched) unread) ((h e).tag_of_place j l)
-      | inr e ↦ rw e refl
-    ]
-
-pub vote_by_tags : (s : Shape) (day able : ℕ) (words tags : List ℕ) (i j : ℕ) (v : code.Vote) → j < s.n → (has able i ≡ true → Expected s day words i tags)
-    → vote_of v ≡ vote_against s.t s.d able words tags j i → vote_of v ≡ vote s.t s.d day able words j i
-vote_by_tags s day able words tags i j v l h e = e ∙ same_vote s day able words tags i j l h
-
--- the same for one tag alone: does the tag hold
-module _ (t d day able : ℕ) (words : List ℕ) (i j : ℕ) where
-  pub single_member : (a : Bool) → a ≡ has able i → a ≡ false → vote_of Unread ≡ vote t d day able words j i
-  unfolding vote_of vote
-  single_member a ea h = sym (rw (sym ea ∙ h))
-
-  pub single_voter : (b : Bool) → b ≡ has able j → b ≡ false → vote_of Unread ≡ vote t d day able words j i
-  unfolding vote_of vote
-  single_voter b eb h = sym (rw (and_no (has able i) (has able j) (sym eb ∙ h)))
-
-  module _ (a : Bool) (ea : a ≡ has able i) (ha : a ≡ true) (b : Bool) (eb : b ≡ has able j) (hb : b ≡ true) (c : Bool) (ec : c ≡ tag_holds t d day words i j) where
-    pub single_mismatched : c ≡ false → vote_of Mismatched ≡ vote t d day able words j i
-    unfolding vote_of vote
-    single_mismatched h = sym (rw (sym ea ∙ ha, sym eb ∙ hb, sym ec ∙ h))
-
-    pub single_accepted : c ≡ true → vote_of Accepted ≡ vote t d day able words j i
-    unfolding vote_of vote
-    single_accepted h = sym (rw (sym ea ∙ ha, sym eb ∙ hb, sym ec ∙ h))
+-- the tags that a usable member has to have tell whether its tag holds
+pub told_by_tags : (s : Shape) (day : ℕ) (words tags : List ℕ) (i j : ℕ) (h : Bool) → j < s.n → Expected s day words i tags
+    → h ≡ eqb (tag_word_at s.t s.d words i j) (get_or tags j 0) → h ≡ tag_holds s.t s.d day words i j
+unfolding tag_holds
+told_by_tags s day words tags i j h l x e = e ∙ ap (eqb (tag_word_at s.t s.d words i j)) (x.tag_of_place j l)
 
 -- no votes are counted
-module _ (gives : ℕ → code.Vote → Type 0) where
-  pub counts_none : (p : code_pairs.Pairs) → pairs_of p ≡ no_pairs → Counts gives 0 (record { row = 0; pairs = p })
+module _ (able i : ℕ) (tells : ℕ → Bool → Type 0) where
+  pub counts_none : (p : code_pairs.Pairs) → pairs_of p ≡ no_pairs → Counts able i tells 0 (record { row = 0; pairs = p })
   unfolding set_of tab kinds count_of keep
-  counts_none p e votes h = (refl, e)
+  counts_none p e holds h = (refl, e)
 
   -- one vote more
-  pub counts_more : (at : Counted) (j : ℕ) → j < 31 → Counts gives j at → (v : code.Vote) → gives j v → (r : Counted)
+  pub counts_more : (at : Counted) (j : ℕ) → j < 31 → Counts able i tells j at → (v : code.Vote) → Tests able i j (tells j) v → (r : Counted)
       → r.row ≡ cond (is_of accepted (vote_of v)) (adding at.row j) at.row → pairs_of r.pairs ≡ together (pairs_of at.pairs) (kinds (vote_of v ∷ []))
-      → Counts gives (j + 1) r
-  counts_more at j few counts v given r er ep votes h =
-      let before = counts votes (λ k w b. h k w (omega arith)) in
-      let ev = h j v (omega arith) given in (
+      → Counts able i tells (j + 1) r
+  counts_more at j few counts v tested r er ep holds h =
+      let votes : ℕ → Vote = λ k. voted able i k (holds k) in
+      let before = counts holds (λ k w b. h k w (omega arith)) in
+      let ev = tested (holds j) (λ w. h j w (omega arith)) in (
         er
             ∙ ap₂ (λ (w : Vote) (m : ℕ). cond (is_of accepted w) (adding m j) m) ev before.0
             ∙ set_of_step j (λ k. is_of accepted (votes k)) (is_of accepted (votes j)) (omega arith) refl,

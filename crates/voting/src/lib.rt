@@ -8,8 +8,8 @@ ghost use Rattle.members.specs.Members.{size, has, set_of, adding};
 ghost use Rattle.shares.specs.Layout.{key_α, key_β};
 ghost use Rattle.voting.specs.Votes.{field_share, usable, tag_holds, accepted, vote as vote_by, is_of, accepts, vote_rows, no_pairs, kinds, pairs as pairs_by};
 ghost use Rattle.voting.specs.Answer.{vote_of, pairs_of};
-ghost use Rattle.voting.specs.Internal.Counting.{together, Counts};
-ghost use Rattle.voting.specs.Internal.Expected.{Expected, vote_against};
+ghost use Rattle.voting.specs.Internal.Counting.{together, Tests, Counts};
+ghost use Rattle.voting.specs.Internal.Expected.{Expected};
 
 use shares::Shares;
 
@@ -125,19 +125,6 @@ pub fn usable_members(shares: &Shares, present: u32) -> u32
     set
 }
 
-// Everybody's keys for member i: key(k,i) at place k.
-fn gather_keys(shares: &Shares, i: usize, alphas: &mut [u16; 32], betas: &mut [u16; 32])
-    requires { i < shares.now.shape.n }
-    ensures alphas_value { take shares.now.shape.n alphas.new ≡ tab shares.now.shape.n (λ k. key_α shares.now.shape.t shares.now.shape.d shares.now.words.now k i) }
-    ensures betas_value { take shares.now.shape.n betas.new ≡ tab shares.now.shape.n (λ k. key_β shares.now.shape.t shares.now.shape.d shares.now.words.now k i) }
-{
-    for k in 0..shares.shape.n {
-        let key = shares.key(k, i);
-        alphas[k] = key.alpha;
-        betas[k] = key.beta;
-    }
-}
-
 // What tag(i,j) has to be, at place j: the tag of the day and i's share words under key(j,i).
 fn expect(shares: &Shares, day: u16, i: usize, tags: &mut [u16; 32])
     requires { i < shares.now.shape.n }
@@ -145,7 +132,12 @@ fn expect(shares: &Shares, day: u16, i: usize, tags: &mut [u16; 32])
 {
     let mut alphas = [0u16; 32];
     let mut betas = [0u16; 32];
-    gather_keys(shares, i, &mut alphas, &mut betas);
+    shares::gather_keys(
+        shares.shape.n,
+        |k| shares.key(k, i),
+        &mut alphas,
+        &mut betas,
+    );
     mac::tags_with_first(&alphas, &betas, day, shares.share_words(i), tags);
 }
 
@@ -171,10 +163,10 @@ fn tag_holds(shares: &Shares, day: u16, i: usize, j: usize) -> bool
     shares.tag(i, j) == expected
 }
 
-// The vote of member j on member i, where `tags` has what i's tags have to be.
-fn test_tag(shares: &Shares, able: u32, tags: &[u16; 32], i: usize, j: usize) -> Vote
-    requires { (i < shares.now.shape.n) × (j < shares.now.shape.n) }
-    ensures { vote_of result ≡ vote_against shares.now.shape.t shares.now.shape.d able shares.now.words.now tags.now j i }
+// The vote of member j on member i, where `holds` tells whether i's tag for a member is the right one. It is asked only if both are usable.
+fn test_tag<F: Fn(usize) -> bool>(able: u32, i: usize, j: usize, holds: &F) -> Vote
+    requires { F.pre holds.now j }
+    ensures { Tests able i j (F.post holds.now j) result }
 {
     if !members::has(able, i) {
         return Vote::Unread; // the member is not usable
@@ -182,38 +174,24 @@ fn test_tag(shares: &Shares, able: u32, tags: &[u16; 32], i: usize, j: usize) ->
     if !members::has(able, j) {
         return Vote::Unread; // the voter is not usable
     }
-    if shares.tag(i, j) != tags[j] {
+    if !holds(j) {
         return Vote::Mismatched;
     }
     Vote::Accepted
 }
 
-// The vote of member j on member i, by its tag alone.
-fn test_single(shares: &Shares, day: u16, able: u32, i: usize, j: usize) -> Vote
-    requires { (i < shares.now.shape.n) × (j < shares.now.shape.n) }
-    ensures { vote_of result ≡ vote_by shares.now.shape.t shares.now.shape.d day able shares.now.words.now j i }
-{
-    if !members::has(able, i) || !members::has(able, j) {
-        return Vote::Unread; // one of them is not usable
-    }
-    if tag_holds(shares, day, i, j) {
-        return Vote::Accepted;
-    }
-    Vote::Mismatched
-}
-
-// The votes of n members on one, each by `test`.
-fn row_by<F: Fn(usize) -> Vote>(n: usize, test: F) -> Counted
+// The votes of n members on member i, where `holds` tells whether i's tag for a member is the right one.
+fn row_by<F: Fn(usize) -> bool>(n: usize, able: u32, i: usize, holds: F) -> Counted
     requires few { n ≤ 31 }
-    requires can { (j : ℕ) → j < n → F.pre test j }
-    ensures { Counts (F.post test) n result }
+    requires can { (j : ℕ) → j < n → F.pre holds j }
+    ensures { Counts able i (F.post holds) n result }
 {
     let mut at = Counted {
         row: 0,
         pairs: no_pairs(),
     };
     for j in 0..n {
-        at = at.with(test(j), j);
+        at = at.with(test_tag(able, i, j, &holds), j);
     }
     at
 }
@@ -224,7 +202,8 @@ fn row_singly(shares: &Shares, day: u16, able: u32, i: usize) -> Counted
     ensures row_value { result.row ≡ set_of (size shares.now.shape.t) (λ j. accepts shares.now.shape.t shares.now.shape.d day able shares.now.words.now j i) }
     ensures pairs_value { pairs_of result.pairs ≡ kinds (tab (size shares.now.shape.t) (λ j. vote_by shares.now.shape.t shares.now.shape.d day able shares.now.words.now j i)) }
 {
-    row_by(shares.shape.n, |j| test_single(shares, day, able, i, j))
+    let shares = *shares; // a copy of its own, which the compiler keeps in registers
+    row_by(shares.shape.n, able, i, |j| tag_holds(&shares, day, i, j))
 }
 
 // Everybody's votes on member i, all tags at once.
@@ -235,7 +214,7 @@ fn row_at_once(shares: &Shares, day: u16, able: u32, i: usize) -> Counted
 {
     let mut tags = [0u16; 32];
     expect_usable(shares, day, able, i, &mut tags);
-    row_by(shares.shape.n, |j| test_tag(shares, able, &tags, i, j))
+    row_by(shares.shape.n, able, i, |j| shares.tag(i, j) == tags[j])
 }
 
 // Everybody's votes on member i, by whichever way is quicker.
@@ -244,7 +223,7 @@ fn row(shares: &Shares, day: u16, able: u32, i: usize) -> Counted
     ensures row_value { result.row ≡ set_of (size shares.now.shape.t) (λ j. accepts shares.now.shape.t shares.now.shape.d day able shares.now.words.now j i) }
     ensures pairs_value { pairs_of result.pairs ≡ kinds (tab (size shares.now.shape.t) (λ j. vote_by shares.now.shape.t shares.now.shape.d day able shares.now.words.now j i)) }
 {
-    if shares::is_large(shares.shape) {
+    if shares::is_large(shares.shape.t, shares.shape.d) {
         return row_at_once(shares, day, able, i);
     }
     row_singly(shares, day, able, i)

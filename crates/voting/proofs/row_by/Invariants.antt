@@ -7,4 +7,4 @@ use Rattle.voting.proofs.Counts.{total}
 use Rattle.voting.proofs.row_by.Given as goal
 
 abbrev pub invariant-loop-j : goal.invariant-loop-j
-invariant-loop-j g l = (total (pairs_of l.at.pairs) ≡ l.j) × Counts (goal.F-post g l.test) l.j l.at
+invariant-loop-j g l = (total (pairs_of l.at.pairs) ≡ l.j) × Counts l.able l.i (goal.F-post g l.holds) l.j l.at

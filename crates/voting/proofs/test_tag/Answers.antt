@@ -1,23 +1,20 @@
 -- `voting::test_tag`: its three tests are those of the definition.
 -- Assumes nothing.
-use Rattle.std.proofs.Common.{arith}
-use Rattle.voting.proofs.Rows.{few, unusable_member, unusable_voter, tag_mismatched, tag_accepted}
+use Rattle.voting.proofs.Rows.{unusable_member, unusable_voter, tag_mismatched, tag_accepted}
 use Rattle.voting.proofs.test_tag.Goals as goal
 
 pub returns-then-not-has : goal.returns-then-not-has
-returns-then-not-has c = search unusable_member
+returns-then-not-has g c = λ b told. unusable_member _ _ _ b _ c.has.ensures c.if-not-has.true
 
 pub returns-then-not-has-2 : goal.returns-then-not-has-2
-returns-then-not-has-2 c = search unusable_voter
+returns-then-not-has-2 g c = λ b told. unusable_voter _ _ _ b _ c.has-2.ensures c.if-not-has-2.true
 
-pub offset_bounds-tags-j : goal.offset_bounds-tags-j
-offset_bounds-tags-j c = omega (arith, few c.args.shares.now.shape)
-
-pub bounds-tags-j : goal.bounds-tags-j
-bounds-tags-j c = omega (arith, few c.args.shares.now.shape)
-
-pub returns-then-tag-tags : goal.returns-then-tag-tags
-returns-then-tag-tags c = search tag_mismatched
+pub returns-then-not-holds : goal.returns-then-not-holds
+returns-then-not-holds g c =
+    λ b told.
+    tag_mismatched _ _ _ b _ c.has.ensures c.if-not-has.false _ c.has-2.ensures c.if-not-has-2.false _ (λ able. told _ able c.holds.ensures) c.if-not-holds.true
 
 pub returns : goal.returns
-returns c = search tag_accepted
+returns g c =
+    λ b told.
+    tag_accepted _ _ _ b _ c.has.ensures c.if-not-has.false _ c.has-2.ensures c.if-not-has-2.false _ (λ able. told _ able c.holds.ensures) c.if-not-holds.false
