@@ -67,9 +67,12 @@ module _ {A : Type 0} (p : A → Bool) where
   tested_none = refl
 
   -- one element more
-  pub tested_next : (xs : List A) (i n : ℕ) (d : A) (r u : Bool) → n ≡ i + 1 → i < length xs → r ≡ each p (take i xs) → u ≡ p (get_or xs i d) → r && u ≡ each p (take n xs)
+  pub tested_next : (xs : List A) (i n : ℕ) (d : A) (r u : Bool) → n ≡ i + 1 → i < length xs → r ≡ each p (take i xs) → u ≡ p (get_or xs i d)
+      → r && u ≡ each p (take n xs)
   unfolding each
-  tested_next xs i n d r u e h t q = ap (λ (b : Bool). b && u) t ∙ ap (λ (b : Bool). each p (take i xs) && b) q ∙ sym (step xs i h) ∙ ap (λ (m : ℕ). each p (take m xs)) (let one : suc i ≡ n = omega (arith, e) in one)
+  tested_next xs i n d r u e h t q =
+      let one : suc i ≡ n = omega (arith, e) in
+      ap (λ (b : Bool). b && u) t ∙ ap (λ (b : Bool). each p (take i xs) && b) q ∙ sym (step xs i h) ∙ ap (λ (m : ℕ). each p (take m xs)) one
     where
       first : (b : Bool) → b && true ≡ b
       first true = refl

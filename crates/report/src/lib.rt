@@ -4,7 +4,7 @@
 ghost use Rattle.std.specs.Prelude.{◌≡◌, [], ◌∷◌, ◌++◌, ◌+◌, ◌*◌, ◌≤◌, length, take};
 ghost use Rattle.lists.specs.Ascii.{ascii};
 ghost use Rattle.members.specs.Members.{size};
-ghost use Rattle.shares.specs.Layout.{capacity, width};
+ghost use Rattle.shares.specs.Layout.{width};
 ghost use Rattle.shares.specs.Internal.Shape.{InRange};
 ghost use Rattle.refusals.specs.Refusals.{number};
 ghost use Rattle.text.specs.Lines.{line};
@@ -78,9 +78,9 @@ fn open_shares(hand_in: HandIn, shares: &[u16], secret: &mut [u16], output: &mut
 }
 
 // Opens the shares of a text that was read: as many words at the front of the reader's buffer as all shares have.
-fn open_words(hand_in: HandIn, words: &[u16], secret: &mut [u16], output: &mut Output)
+fn open_words(hand_in: HandIn, words: &[u16; 4867], secret: &mut [u16; 64], output: &mut Output)
     requires in_range { InRange hand_in.t hand_in.d }
-    requires lengths { (length words.now ≡ capacity) × (length secret.old ≡ 64) × (output.old.end + 1024 ≤ length output.old.bytes.now) }
+    requires room { output.old.end + 1024 ≤ length output.old.bytes.now }
     ensures same_reference { output.new.bytes.ghost_name ≡ output.old.bytes.ghost_name }
     ensures written { Written output.old.bytes.now output.old.end
         (opening hand_in.t hand_in.d hand_in.day hand_in.present hand_in.quorum (take (size hand_in.t * width hand_in.t hand_in.d) words.now))
@@ -93,8 +93,8 @@ fn open_words(hand_in: HandIn, words: &[u16], secret: &mut [u16], output: &mut O
 }
 
 // Reads a text, and prints the answer.
-fn print_text(text: &[u8], words: &mut [u16], secret: &mut [u16], output: &mut Output)
-    requires { (length words.old ≡ capacity) × (length secret.old ≡ 64) × (output.old.end + 1024 ≤ length output.old.bytes.now) }
+fn print_text(text: &[u8], words: &mut [u16; 4867], secret: &mut [u16; 64], output: &mut Output)
+    requires { output.old.end + 1024 ≤ length output.old.bytes.now }
     ensures same_reference { output.new.bytes.ghost_name ≡ output.old.bytes.ghost_name }
     ensures written { Written output.old.bytes.now output.old.end (report text.now) output.new.bytes.now output.new.end }
 {

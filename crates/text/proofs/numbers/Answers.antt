@@ -16,9 +16,9 @@ returns-then-not-is_mark c =
 
 pub loop-number-init : goal.loop-number-init
 loop-number-init c =
-    let (out, line) : List ℕ × List ℕ = (c.args.out.now, c.args.line.now) in
-    rw (line_fields c.args.letter (length out) line c.first_field.result.0.now (fields_left (option_copied c.first_field.result.1)) c.first_field.ensures c.if-head-ne1.false c.is_mark.ensures c.if-not-is_mark.false)
-    (fields_start out (fields_left (option_copied c.first_field.result.1)))
+    let (out, line, left) : List ℕ × List ℕ × List (List ℕ) = (c.args.out.now, c.args.line.now, fields_left (option_copied c.first_field.result.1)) in
+    rw (line_fields c.args.letter (length out) line c.first_field.result.0.now left c.first_field.ensures c.if-head-ne1.false c.is_mark.ensures c.if-not-is_mark.false)
+    (fields_start out left)
 
 pub returns-in_default : goal.returns-in_default
 returns-in_default c = fields_few c.loop-number.invariant (omega arith) (rw c.in_default.is left_none)

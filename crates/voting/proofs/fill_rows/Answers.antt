@@ -10,14 +10,15 @@ loop-i-init c = (sym (tab_none _), filling_first c.args.shares.now.shape c.args.
 
 pub and-pairs-requires : goal.and-pairs-requires
 and-pairs-requires c =
-    filling_room c.args.shares.now.shape c.args.day c.args.able c.args.shares.now.words.now c.loop-i.pairs c.loop-i.i c.loop-i.invariant.1 c.row-at.result.pairs c.row-at.ensures.pairs_value (omega arith)
+    let words = c.args.shares.now.words.now in
+    filling_room c.args.shares.now.shape c.args.day c.args.able words c.loop-i.pairs c.loop-i.i c.loop-i.invariant.1 _ c.row-at.ensures.pairs_value (omega arith)
 
 pub loop-i-preserved : goal.loop-i-preserved
 loop-i-preserved c =
     let shape = c.args.shares.now.shape in
     let words = c.args.shares.now.words.now in (
       written_next (row_of shape c.args.day c.args.able words) c.loop-i.rows c.loop-i.i _ _ (omega arith) (omega arith) c.loop-i.invariant.0 c.row-at.ensures.row_value,
-      filling_next shape c.args.day c.args.able words c.loop-i.pairs c.loop-i.i c.loop-i.invariant.1 c.row-at.result.pairs c.row-at.ensures.pairs_value c.and-pairs.result c.and-pairs.ensures,
+      filling_next shape c.args.day c.args.able words c.loop-i.pairs c.loop-i.i c.loop-i.invariant.1 _ c.row-at.ensures.pairs_value _ c.and-pairs.ensures,
     )
 
 pub returns-clause-rows_after : goal.returns-clause-rows_after

@@ -24,4 +24,5 @@ pub returns : goal.returns
 unfolding usable
 returns c =
     let s = c.args.shares.now.shape in
-    c.loop-i.invariant ∙ ap (λ (n : ℕ). set_of n (λ k. has c.args.present k && field_share s.t s.d c.args.shares.now.words.now k)) {x = c.loop-i.i} {y = size s.t} (omega (arith, (station s).members))
+    let words = c.args.shares.now.words.now in
+    c.loop-i.invariant ∙ ap (λ (n : ℕ). set_of n (λ k. has c.args.present k && field_share s.t s.d words k)) {x = c.loop-i.i} {y = size s.t} (omega (arith, (station s).members))

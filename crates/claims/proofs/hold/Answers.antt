@@ -11,14 +11,10 @@ use Rattle.claims.proofs.Pairs.{pair_counts}
 use Rattle.claims.proofs.QuickLook.{table_rule, quick_look, all_agree, look_instances}
 use Rattle.claims.proofs.Rules.{rules}
 use Rattle.claims.proofs.Secrecy.{secrecy, perfect_secrecy, secrecy_anywhere, secrecy_instances}
-use Rattle.claims.proofs.hold.Statement.{statement}
-use Rattle.claims.proofs.hold.Tie as tie
+use Rattle.claims.proofs.hold.Goals as goal
 
-pub hold_spec : {M : Type 1} → statement M
-hold_spec =
-    tie.close
-    (tie.spec
-    (λ c.
+pub returns : goal.returns
+returns c =
     record {
       demand2 = demand2;
       demand3 = demand3;
@@ -44,4 +40,4 @@ hold_spec =
       rules = rules;
       examples = examples;
       corners = corners;
-    }))
+    }
