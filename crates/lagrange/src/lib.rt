@@ -1,5 +1,5 @@
-// Lagrange's matrix: from the values of some members, by sums of products, the values at 0 and at all members of the polynomial through them. It is made once for
-// the members that are chosen, and serves every word.
+// Lagrange's matrix: from the values of some members, by sums of products, the values at 0 and at all members of the polynomial through them. It is made once
+// for the members that are chosen, and serves every word.
 #![tactic(auto)]
 
 ghost use Rattle.std.specs.Prelude.{◌≡◌, ℕ, suc, cond, ◌%◌, ◌≤◌, ◌<◌, ◌^◌, eqb, length, take};
@@ -9,8 +9,8 @@ ghost use Rattle.members.specs.Members.{card};
 ghost use Rattle.lagrange.specs.Internal.Lagrange.{over, Apart, inverted, weight as weight_of, weights as weights_of, Reads};
 ghost use Rattle.lagrange.specs.Internal.Matrix.{Chosen, Rows};
 
-// The points of some of n members, and the rows that read the polynomial through values at these points: the row for x gives its value at x, for 0 and for all
-// members' points.
+// The points of some of n members, and the rows that read off the polynomial through any values at them: the row for x its value at x, which is 0 or any
+// member's point. Both are lent, so that they can be filled anew for other members.
 #[derive(Drop)]
 pub struct Matrix<'a> {
     pub n: usize,
@@ -151,7 +151,8 @@ impl Matrix<'_> {
         prepare(n, set, points, rows)
     }
 
-    // The inner products of the words with each row: of values at the points, the values at 0 and at the members' points of the polynomial through them.
+    // The inner products of the words with each row. If the words are values at the points, they are the values at 0 and at all members' points of the
+    // polynomial through them.
     #[tactic(auto, using(lists::proofs::Loops::writes), unfolding(crate::specs::Internal::Matrix::products))]
     pub fn expect(&self, words: &[u16], expected: &mut [u16])
         requires { (length words.now ≤ 16) × (length expected.old ≤ 32) }

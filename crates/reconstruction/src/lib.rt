@@ -86,8 +86,7 @@ struct Survivors<'a> {
 impl Survivors<'_> {
     ghost use Rattle.reconstruction.specs.Internal.Words.{words};
 
-    // The share words at place k of the members that `member` names for the places of the buffer.
-    #[tactic(auto, using(lists::proofs::Loops::writes))]
+    // Share words at place k: for each place of the buffer, that of the member whom the closure names for it.
     fn column_by<F: Fn(usize) -> usize>(&self, k: usize, member: F, values: &mut [u16])
         requires inside { k < self.now.shares.shape.d }
         requires can { (m : ℕ) → m < length values.old → F.pre member m }
@@ -183,8 +182,8 @@ impl Survivors<'_> {
         })
     }
 
-    // The words from `done` on, one after the other: the secret, with those of the survivors that meet every word's polynomial; 16 where a word has none, or where too few are left.
-    // After a word that was worked out in full comes a matrix for the members that still agree.
+    // The words from `done` on, one after the other: the secret, with those of the survivors that meet every word's polynomial; 16 where a word has none, or
+    // where too few are left. A word that was worked out in full is followed by a matrix for the members that still agree.
     fn open_words(&self, done: usize, secret: &mut [u16]) -> Result<Opened, Unopened>
         requires secret_len { length secret.old ≡ self.now.shares.shape.d }
         requires begun { Begun (own_points self.now.shares.shape.t) self.now.shares.shape.t self.now.shares.shape.d (words self.now) self.now.set done secret.old }

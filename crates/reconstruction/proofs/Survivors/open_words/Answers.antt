@@ -1,4 +1,5 @@
--- `reconstruction::Survivors::open_words`: where a word has no polynomial, or too few are left, nothing is found for all words together, and after the last word all is found.
+-- `reconstruction::Survivors::open_words`: where a word has no polynomial, or too few are left, nothing is found for all words together, and after the last
+-- word all is found.
 -- Assumes nothing.
 use Rattle.std.proofs.Common.{refl, rules}
 use Rattle.reconstruction.proofs.AllWords.{opening_begun, opening_none, opening_few, opening_next, opening-set, opening_enough, opening_last}

@@ -1,4 +1,5 @@
--- `reconstruction::Survivors::open_words`: before word k the words before it have their polynomials, enough of the survivors meet these, and the values at 0 are stored.
+-- `reconstruction::Survivors::open_words`: before word k the words before it have their polynomials, enough of the survivors meet these, and the values at 0
+-- are stored.
 -- Assumes nothing.
 use Rattle.std.proofs.Common.{◌≡◌, suc, length}
 use Rattle.members.specs.Members.{own_points}
