@@ -301,26 +301,6 @@ pub fn open_voted(
 }
 
 // Opening after its checks: the usable members, their votes, and the second half.
-fn open_by_votes(
-    shares: &Shares,
-    day: u16,
-    present: u32,
-    quorum: u16,
-    rows: &mut [u32],
-    secret: &mut [u16],
-) -> Reconstructed
-    requires { (length rows.old ≡ shares.now.shape.n) × (length secret.old ≡ shares.now.shape.d) }
-    ensures { answered_of result secret.new ≡ by_shares shares.now.shape day present quorum shares.now.words.now }
-{
-    let able = voting::usable_members(shares, present);
-    let pairs = voting::fill_rows(shares, day, able, rows);
-    Reconstructed {
-        outcome: open_voted(shares, quorum, able, rows, secret),
-        pairs,
-    }
-}
-
-// The same, with room for the vote rows.
 #[tactic(auto, unfolding(members::specs::Members::size))]
 fn open_shares(
     shares: &Shares,
@@ -332,9 +312,14 @@ fn open_shares(
     requires { length secret.old ≡ shares.now.shape.d }
     ensures { answered_of result secret.new ≡ by_shares shares.now.shape day present quorum shares.now.words.now }
 {
-    let n = shares.shape.n;
     let mut rows = [0; 31];
-    open_by_votes(shares, day, present, quorum, &mut rows[..n], secret)
+    let rows = &mut rows[..shares.shape.n];
+    let able = voting::usable_members(shares, present);
+    let pairs = voting::fill_rows(shares, day, able, rows);
+    Reconstructed {
+        outcome: open_voted(shares, quorum, able, rows, secret),
+        pairs,
+    }
 }
 
 // A refusal before the votes: nothing is counted.
