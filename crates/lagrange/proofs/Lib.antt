@@ -1,4 +1,4 @@
 -- What is proved of this crate.
 pub mod Lagrange
-pub mod Matrix
 pub mod Products
+pub mod Rows

@@ -43,7 +43,9 @@ pub over_next : (f : ℕ → ℕ) (xs : List ℕ) (i result v : ℕ) → i < len
 unfolding over
 over_next f xs i result v h e ev =
     let more : over f (take (i + 1) xs) ≡ over f (take i xs) * v =
-    ap (over f) (take_more xs i 0 h) ∙ over-append f (take i xs) (get_or xs i 0 ∷ []) ∙ ap (λ (a : ℕ). over f (take i xs) * a) (mul-one (f (get_or xs i 0)) ∙ sym ev) in
+    ap (over f) (take_more xs i 0 h)
+    ∙ over-append f (take i xs) (get_or xs i 0 ∷ [])
+    ∙ ap (λ (a : ℕ). over f (take i xs) * a) (mul-one (f (get_or xs i 0)) ∙ sym ev) in
     eq_same (product-word result v) (mod-word (over f (take (i + 1) xs)))
     (same_trans (product_same result v)
     (same_trans (same_trans (same_eq e) (reduced (over f (take i xs))) ⊗ same_refl)

@@ -1,13 +1,26 @@
-// Lagrange's matrix: from the values of some members, by sums of products, the values at 0 and at all members of the polynomial through them. It is made once for
-// the members that are chosen, and serves every word.
+// Lagrange's matrix: from the values of some members, by sums of products, the values at 0 and at all members of the polynomial through them. It is made once
+// for the members that are chosen, and serves every word.
 #![tactic(auto)]
 
-ghost use Rattle.std.specs.Prelude.{◌≡◌, ℕ, cond, ◌%◌, ◌≤◌, ◌<◌, ◌^◌, eqb, length, take};
+ghost use Rattle.std.specs.Prelude.{◌≡◌, ℕ, suc, cond, ◌%◌, ◌≤◌, ◌<◌, ◌^◌, eqb, length, take};
 ghost use Rattle.lists.specs.Tabulate.{tab};
 ghost use Rattle.field.specs.Field.{prime, difference, product, inverse};
 ghost use Rattle.members.specs.Members.{card};
 ghost use Rattle.lagrange.specs.Internal.Lagrange.{over, Apart, inverted, weight as weight_of, weights as weights_of, Reads};
-ghost use Rattle.lagrange.specs.Internal.Matrix.{Chosen, Rows, products};
+ghost use Rattle.lagrange.specs.Internal.Matrix.{Chosen, Rows};
+
+// The points of some of n members, and the rows that read off the polynomial through any values at them: the row for x its value at x, which is 0 or any
+// member's point. Both are lent, so that they can be filled anew for other members.
+#[derive(Drop)]
+pub struct Matrix<'a> {
+    pub n: usize,
+    pub points: &'a mut [u16],
+    pub rows: &'a mut [[u16; 16]; 32],
+    pub ghost small: { n ≤ 31 },
+    pub ghost few: { length points.now ≤ 16 },
+    pub ghost chosen: { Chosen n points.now },
+    pub ghost readable: { Rows n points.now rows.now },
+}
 
 // A function of each point, multiplied over all of them.
 fn over<F: Fn(u16) -> u16>(points: &[u16], factor: F) -> u16
@@ -97,36 +110,60 @@ fn choose(n: usize, set: u32, points: &mut [u16])
 }
 
 // Lagrange's rows for 0 and for the members' points.
-fn fill_rows(n: usize, points: &[u16], weights: &[u16], matrix: &mut [[u16; 16]; 32])
+fn fill_rows(n: usize, points: &[u16], weights: &[u16], rows: &mut [[u16; 16]; 32])
     requires n_bound { (n ≤ 31) × (length points.now ≤ 16) }
     requires apart { Apart points.now × (weights.now ≡ weights_of points.now) }
-    ensures { Rows n points.now matrix.new }
+    ensures { Rows n points.now rows.new }
 {
     for x in 0..n + 1 {
-        fill_row(points, weights, x as u16, &mut matrix[x]);
+        fill_row(points, weights, x as u16, &mut rows[x]);
     }
 }
 
-// The matrix for the first members of a set.
-pub fn prepare(n: usize, set: u32, points: &mut [u16], matrix: &mut [[u16; 16]; 32])
+// The matrix for the first members of a set, as many as there are points to be filled.
+pub fn prepare<'a>(
+    n: usize,
+    set: u32,
+    points: &'a mut [u16],
+    rows: &'a mut [[u16; 16]; 32],
+) -> Matrix<'a>
     requires { (n ≤ 31) × (set < 2 ^ n) × (length points.old ≤ card n set) × (length points.old ≤ 16) }
-    ensures { Chosen n points.new × Rows n points.new matrix.new }
+    ensures { (result.n ≡ n) × (length result.points.now ≡ length points.old) }
 {
     let mut room = [0u16; 16];
     let weights = &mut room[..points.len()];
     choose(n, set, points);
     fill_weights(points, weights);
-    fill_rows(n, points, weights, matrix);
+    fill_rows(n, points, weights, rows);
+    Matrix { n, points, rows }
 }
 
-// The inner products of the words with each row.
-#[tactic(auto, using(lists::proofs::Loops::writes), unfolding(crate::specs::Internal::Matrix::products))]
-pub fn expect(matrix: &[[u16; 16]; 32], words: &[u16], expected: &mut [u16])
-    requires { (length words.now ≤ 16) × (length expected.old ≤ 32) }
-    ensures { expected.new ≡ tab (length expected.old) (products matrix.now words.now) }
-{
-    let count = words.len();
-    for (x, word) in expected.iter_mut().enumerate() {
-        *word = field::inner_product(&matrix[x][..count], words);
+impl Matrix<'_> {
+    ghost use Rattle.polynomial.specs.Polynomial.{value, interpolate};
+    ghost use Rattle.lagrange.specs.Internal.Matrix.{products};
+
+    // The matrix for the first members of another set, in the same room.
+    pub fn renew(self, set: u32) -> Self
+        requires { (set < 2 ^ self.n) × (length self.points.now ≤ card self.n set) }
+        ensures { (result.n ≡ self.entry.n) × (length result.points.now ≡ length self.entry.points.now) }
+    {
+        let Matrix { n, points, rows } = self;
+        prepare(n, set, points, rows)
+    }
+
+    // The inner products of the words with each row. If the words are values at the points, they are the values at 0 and at all members' points of the
+    // polynomial through them.
+    #[tactic(auto, using(lists::proofs::Loops::writes), unfolding(crate::specs::Internal::Matrix::products))]
+    pub fn expect(&self, words: &[u16], expected: &mut [u16])
+        requires { (length words.now ≤ 16) × (length expected.old ≤ 32) }
+        ensures sums { expected.new ≡ tab (length expected.old) (products self.now.rows.now words.now) }
+        ensures values { length words.now ≡ length self.now.points.now → length expected.old ≡ suc self.now.n
+            → expected.new ≡ tab (suc self.now.n) (value (interpolate self.now.points.now words.now)) }
+    {
+        let count = words.len();
+        let rows = &*self.rows;
+        for (x, word) in expected.iter_mut().enumerate() {
+            *word = field::inner_product(&rows[x][..count], words);
+        }
     }
 }

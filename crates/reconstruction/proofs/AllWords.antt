@@ -103,18 +103,22 @@ module _ (xs : List ℕ) (distinct : Distinct xs) (t : ℕ) (long : length xs �
         fits_value xs distinct t long 1 (word_at y j) s (nth (poly xs t y s j ∷ [])) (λ i. met.f)
         (find-found xs t 1 (word_at y j) s (poly xs t y s j ∷ []) met_found).fits met_fits 0 (suc-le-suc zero-le) z
 
-  pub going_begun : (secret : List ℕ) (k : ℕ) → s < 2 ^ size t → suc t ≤ card (size t) s → length secret ≡ d → Begun xs t d y s k secret → Going xs t d y s s secret k
+  pub going_begun : (secret : List ℕ) (k : ℕ) → s < 2 ^ size t → suc t ≤ card (size t) s → length secret ≡ d → Begun xs t d y s k secret
+      → Going xs t d y s s secret k
   going_begun secret k below enough e begun =
       record {
         inside = begun.inside;
         length_secret = e;
         each = λ j l. met_found enough j _ (begun.each j l);
         members =
-            sym (set_of_ext (size t) (meets_all xs t y s k) (has s) (λ i l. same_test (meets_all xs t y s k i) (has s i) (and_left (has s i) _) (all_met i l)) ∙ set_of-has (size t) s below);
+            sym
+            (set_of_ext (size t) (meets_all xs t y s k) (has s) (λ i l. same_test (meets_all xs t y s k i) (has s i) (and_left (has s i) _) (all_met i l))
+            ∙ set_of-has (size t) s below);
         many = need-all t (card (size t) s) enough;
         so_far =
             take-tab k secret (le_trans begun.inside (le_of_eq (sym e)))
-            ∙ tab_ext k (λ j. get_or secret j 0) (λ j. value (poly xs t y s j) 0) (λ j l. (begun.each j l).at_zero ∙ sym (met_value enough j _ (begun.each j l) 0));
+            ∙ tab_ext k (λ j. get_or secret j 0) (λ j. value (poly xs t y s j) 0)
+            (λ j l. (begun.each j l).at_zero ∙ sym (met_value enough j _ (begun.each j l) 0));
       }
     where
       all_met : (i : ℕ) → i < size t → has s i ≡ true → meets_all xs t y s k i ≡ true
@@ -135,7 +139,8 @@ module _ (xs : List ℕ) (distinct : Distinct xs) (t : ℕ) (long : length xs �
         turned.members
         ∙ set_of_ext (size t) (λ i. has agreed i && eqb (value turned.f (get_or xs i 0)) (y i k)) (meets_all xs t y s (suc k))
         (λ i l.
-        ap₂ (λ (b : Bool) (g : List ℕ). b && eqb (value g (get_or xs i 0)) (y i k)) (ap (λ (m : ℕ). has m i) going.members ∙ has-set_of (size t) (meets_all xs t y s k) i l) its_poly
+        ap₂ (λ (b : Bool) (g : List ℕ). b && eqb (value g (get_or xs i 0)) (y i k))
+        (ap (λ (m : ℕ). has m i) going.members ∙ has-set_of (size t) (meets_all xs t y s k) i l) its_poly
         ∙ and_assoc (has s i) (all k (λ j. eqb (value (poly xs t y s j) (get_or xs i 0)) (y i j))) (eqb (value (poly xs t y s k) (get_or xs i 0)) (y i k))
         ∙ ap (λ (b : Bool). has s i && b) (sym (all_last k (λ j. eqb (value (poly xs t y s j) (get_or xs i 0)) (y i j)))))
 
@@ -255,7 +260,8 @@ module _ (remaining : Survivors) where
       -- nothing is found for word k
       pub opening_none : find (own_points t) t 1 (λ i j. y i k) s ≡ none → {answer : Opened} → answer ≡ unopened (length secret) s 16 → answer ≡ answered
       opening_none e {answer} =
-          nothing (own_points t) t d y s (no_word (own_points t) (own_distinct t low) t (length_own t) d y s k more e) answer (length secret) going.length_secret
+          nothing (own_points t) t d y s (no_word (own_points t) (own_distinct t low) t (length_own t) d y s k more e)
+          answer (length secret) going.length_secret
 
       module _ {met v : ℕ} (got : Got (own_points t) t y s k met v)
           {left : ℕ} (el : left ≡ set_of 32 (λ i. has agreed i && has met i)) {b : Bool} (eb : b ≡ ltb (card 32 left) (need t (card 32 s))) where

@@ -138,7 +138,8 @@ module _ (remaining : Survivors) (k : ℕ) (h : k < remaining.shares.shape.d) wh
         ]
 
     -- the decoder's answer is that of the word
-    pub decodes : (len : ℕ) → len ≡ suc t → (r : Result (Unit {0}) Refusal) (f : List ℕ) → answer_of r f ≡ decode t values s len → answer_of r f ≡ decoded_from (suc t) found
+    pub decodes : (len : ℕ) → len ≡ suc t → (r : Result (Unit {0}) Refusal) (f : List ℕ) → answer_of r f ≡ decode t values s len
+        → answer_of r f ≡ decoded_from (suc t) found
     decodes len el r f a =
         a
         ∙ accepts t values s len (is_a_threshold t shape.d station_of.range) (eq-eqb (length values) (size t) as_many) (eq-eqb len (suc t) el)
@@ -166,7 +167,8 @@ module _ (remaining : Survivors) (k : ℕ) (h : k < remaining.shares.shape.d) wh
     got q = record { f = f; found = q; meets = met_is; at_zero = expected_at 0 zero-le }
 
     -- enough survivors meet it
-    module _ (left : ℕ) (el : left ≡ set_of 32 (λ i. has s i && has met i)) (b : Bool) (eb : b ≡ ltb (card 32 left) (need t (card 32 s))) (enough : b ≡ false) where
+    module _ (left : ℕ) (el : left ≡ set_of 32 (λ i. has s i && has met i)) (b : Bool)
+        (eb : b ≡ ltb (card 32 left) (need t (card 32 s))) (enough : b ≡ false) where
       left_is : left ≡ set_of (size t) (λ i. has s i && eqb (value f (get_or (own_points t) i 0)) (the_word i))
       left_is = el ∙ both_of (size t) s met (λ i. eqb (value f (get_or (own_points t) i 0)) (the_word i)) (size_32 t low) dec.below met_is
 
@@ -197,7 +199,8 @@ module _ (remaining : Survivors) (k : ℕ) (h : k < remaining.shares.shape.d) wh
   pub came_none : (why : Refusal) (f : List ℕ) → answer_of (Err why) f ≡ decoded_from (suc t) found → found ≡ none
   came_none why f a = refused_none (suc t) why f found a
 
-  pub came_found : (f : List ℕ) → answer_of (Ok tt) f ≡ decoded_from (suc t) found → {expected : List ℕ} {len : ℕ} → len ≡ suc shape.n → expected ≡ tab len (value f)
+  pub came_found : (f : List ℕ) → answer_of (Ok tt) f ≡ decoded_from (suc t) found
+      → {expected : List ℕ} {len : ℕ} → len ≡ suc shape.n → expected ≡ tab len (value f)
       → {met : ℕ} → met ≡ set_of shape.n (λ i. eqb (get_or expected (i + 1) 0) (the_word i))
       → Got (own_points t) t (share_word t shape.d words) s k met (get_or expected 0 0)
   came_found f a {expected} {len} el ee {met} em =

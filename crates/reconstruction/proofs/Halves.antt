@@ -54,10 +54,13 @@ votes_voted shares day able present ea rows er =
       long = ap length er ∙ length-tab (size t) row;
       sets =
           ap (each (is_set (size t))) er
-          ∙ every_each (is_set (size t)) (every_tab (size t) row (λ i l. lt-ltb (row i) (2 ^ size t) (set_of-lt (size t) (λ j. accepts t d day able words j i))));
+          ∙ every_each (is_set (size t))
+          (every_tab (size t) row (λ i l. lt-ltb (row i) (2 ^ size t) (set_of-lt (size t) (λ j. accepts t d day able words j i))));
       field = λ i l some k m.
           elim (test (has able i)) [
-            | inl e ↦ usable_words t d present words i l (subst (λ (a : ℕ). has a i ≡ true) ea e) k (omega (arith, (station shares.shape).share, (station shares.shape).parts))
+            | inl e ↦
+                usable_words t d present words i l (subst (λ (a : ℕ). has a i ≡ true) ea e) k
+                (omega (arith, (station shares.shape).share, (station shares.shape).parts))
             | inr e ↦ absurd (some (ap (λ (r : List ℕ). get_or r i 0) er ∙ row_is t d day able words i l ∙ empty_row t d day able words i e))
           ];
     }

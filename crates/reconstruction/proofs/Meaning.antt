@@ -15,7 +15,8 @@ use Rattle.voting.proofs.Meaning.{accepts-usable, has_row}
 use Rattle.pruning.specs.Pruning.{Closed, votes}
 
 module _ (t d day able : ℕ) (words : List ℕ) where
-  pub votes_are : (i : ℕ) → i < size t → (set : ℕ) → votes t (vote_rows t d day able words) set i ≡ count (size t) (λ j. accepts t d day able words j i && has set j)
+  pub votes_are : (i : ℕ) → i < size t → (set : ℕ)
+      → votes t (vote_rows t d day able words) set i ≡ count (size t) (λ j. accepts t d day able words j i && has set j)
   unfolding votes
   votes_are i h set =
       count_ext (size t) (λ j. has (get_or (vote_rows t d day able words) i 0) j && has set j) (λ j. accepts t d day able words j i && has set j)

@@ -39,8 +39,8 @@ finish_none xs t d quorum able rows y met none_left =
     rw (le-leb (required t quorum) (card (size t) able) met, eq-eqb (survivors t rows) 0 none_left)
 
 -- input that passes the checks before the votes
-pub reconstruct_finishes : (t d day present quorum : ℕ) (words : List ℕ) → is_threshold t ≡ true → is_length d ≡ true → is_day day ≡ true → length words ≡ size t * width t d
-    → present < 2 ^ size t → is_quorum t quorum ≡ true
+pub reconstruct_finishes : (t d day present quorum : ℕ) (words : List ℕ) → is_threshold t ≡ true → is_length d ≡ true → is_day day ≡ true
+    → length words ≡ size t * width t d → present < 2 ^ size t → is_quorum t quorum ≡ true
     → let able : ℕ = usable t d present words in
     reconstruct t d day present quorum words
     ≡ record { opened = finish (own_points t) t d quorum able (vote_rows t d day able words) (share_word t d words); pairs = pairs t d day able words }

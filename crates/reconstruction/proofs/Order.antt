@@ -72,5 +72,6 @@ module _ (t d day present quorum : ℕ) (words : List ℕ) where
             goes_on h answer e =
                 e
                 ∙ ap₂ opened_by es.0 es.1
-                ∙ sym (reconstruct_finishes t d day present quorum words threshold in_length is_a_day (eqb-true (length words) (size t * width t d) as_long) (ltb-true present (2 ^ size t) is_a_set)
+                ∙ sym (reconstruct_finishes t d day present quorum words threshold in_length is_a_day
+                (eqb-true (length words) (size t * width t d) as_long) (ltb-true present (2 ^ size t) is_a_set)
                 (sym (ap (λ (m : ℕ). is_quorum m quorum) es.0) ∙ h))

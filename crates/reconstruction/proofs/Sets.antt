@@ -30,5 +30,6 @@ both_of n a b p h below e =
               ap (λ (b : Bool). has a i && b) (ap (λ (m : ℕ). has m i) e ∙ has-set_of n p i q) ∙ sym (has-set_of n (λ j. has a j && p j) i q)
           | no q ↦
               let k : n ≤ i = omega arith in
-              ap (λ (c : Bool). c && has b i) (has_above n a i below k) ∙ sym (has_above n (set_of n (λ j. has a j && p j)) i (set_of-lt n (λ j. has a j && p j)) k)
+              ap (λ (c : Bool). c && has b i) (has_above n a i below k)
+              ∙ sym (has_above n (set_of n (λ j. has a j && p j)) i (set_of-lt n (λ j. has a j && p j)) k)
         ]

@@ -1,7 +1,7 @@
 // Reconstruction (document 01: opening): shares to the secret, for a day.
 #![tactic(auto)]
 
-ghost use Rattle.std.specs.Prelude.{◌≡◌, true, ◌&&◌, suc, ◌+◌, ◌-◌, ◌<◌, ◌≤◌, ◌^◌, eqb, ltb, length, get_or, Err};
+ghost use Rattle.std.specs.Prelude.{◌≡◌, ℕ, true, ◌&&◌, suc, ◌+◌, ◌<◌, ◌≤◌, ◌^◌, eqb, ltb, length, get_or, Err};
 ghost use Rattle.lists.specs.Tabulate.{tab, each};
 ghost use Rattle.polynomial.specs.Polynomial.{value, interpolate};
 ghost use Rattle.refusals.specs.Refusals.{number};
@@ -12,9 +12,9 @@ ghost use Rattle.decoding.specs.Decoding.{need, find, decoded_from};
 ghost use Rattle.reconstruction.specs.Answer.{answer_of, answered_of};
 ghost use Rattle.reconstruction.specs.Reconstruction.{unopened, is_quorum, required, turned_away, reconstruct as reconstruct_of};
 ghost use Rattle.parity.specs.Internal.Looking.{with_values};
-ghost use Rattle.lagrange.specs.Internal.Matrix.{Chosen, Rows};
 ghost use Rattle.reconstruction.specs.Internal.Steps.{Voted, Decodable, Begun, Came, quickly, by_words, by_votes, by_shares};
 
+use lagrange::Matrix;
 use refusals::Refusal;
 use shares::{Shape, Shares};
 use voting::Pairs;
@@ -66,24 +66,6 @@ fn both(a: u32, b: u32) -> u32
     a & b
 }
 
-// A matrix for the members that still agree, if a word was worked out anew and there are more to come.
-fn renew(
-    anew: bool,
-    more: bool,
-    n: usize,
-    agreed: u32,
-    points: &mut [u16],
-    matrix: &mut [[u16; 16]; 32],
-)
-    requires n_bound { (n ≤ 31) × (agreed < 2 ^ n) × (length points.old ≤ card n agreed) × (length points.old ≤ 16) }
-    requires chosen { Chosen n points.old × Rows n points.old matrix.old }
-    ensures { Chosen n points.new × Rows n points.new matrix.new }
-{
-    if anew && more {
-        lagrange::prepare(n, agreed, points, matrix);
-    }
-}
-
 // What a word comes to, if it has a polynomial: whether it was worked out anew, in full; who meets its polynomial, and the value at 0.
 #[derive(Clone, Copy)]
 struct Word {
@@ -104,25 +86,15 @@ struct Survivors<'a> {
 impl Survivors<'_> {
     ghost use Rattle.reconstruction.specs.Internal.Words.{words};
 
-    // The members' share words at place k.
-    #[tactic(auto, using(lists::proofs::Loops::writes))]
-    fn column(&self, k: usize, values: &mut [u16])
-        requires { (k < self.now.shares.shape.d) × (length values.old ≡ self.now.shares.shape.n) }
-        ensures { values.new ≡ tab self.now.shares.shape.n (λ i. words self.now i k) }
+    // Share words at place k: for each place of the buffer, that of the member whom the closure names for it.
+    fn column_by<F: Fn(usize) -> usize>(&self, k: usize, member: F, values: &mut [u16])
+        requires inside { k < self.now.shares.shape.d }
+        requires can { (m : ℕ) → m < length values.old → F.pre member m }
+        requires members { (m i : ℕ) → m < length values.old → F.post member m i → i < self.now.shares.shape.n }
+        ensures { (f : ℕ → ℕ) → ((m i : ℕ) → F.post member m i → i ≡ f m) → values.new ≡ tab (length values.old) (λ m. words self.now (f m) k) }
     {
-        for (i, value) in values.iter_mut().enumerate() {
-            *value = self.shares.share_word(i, k);
-        }
-    }
-
-    // The chosen members' share words at place k.
-    #[tactic(auto, using(lists::proofs::Loops::writes))]
-    fn gather(&self, k: usize, points: &[u16], chosen: &mut [u16])
-        requires { Chosen self.now.shares.shape.n points.now × (k < self.now.shares.shape.d) × (length chosen.old ≡ length points.now) }
-        ensures { chosen.new ≡ tab (length points.now) (λ m. words self.now (get_or points.now m 0 - 1) k) }
-    {
-        for (m, word) in chosen.iter_mut().enumerate() {
-            *word = self.shares.share_word(points[m] as usize - 1, k);
+        for (m, value) in values.iter_mut().enumerate() {
+            *value = self.shares.share_word(member(m), k);
         }
     }
 
@@ -148,27 +120,23 @@ impl Survivors<'_> {
             < decoding::need(self.shares.shape.t as u16, members::card(self.set))
     }
 
-    // The decoder's answer for word k, with the members' words and the coefficients in the buffers.
-    fn decode_word(&self, k: usize, values: &mut [u16], f: &mut [u16]) -> Result<(), Refusal>
-        requires { (k < self.now.shares.shape.d) × (length values.old ≡ self.now.shares.shape.n) × (length f.old ≡ suc self.now.shares.shape.t) }
+    // The decoder's answer for word k, with the coefficients in the buffer.
+    fn decode_word(&self, k: usize, f: &mut [u16]) -> Result<(), Refusal>
+        requires { (k < self.now.shares.shape.d) × (length f.old ≡ suc self.now.shares.shape.t) }
         ensures { decoded_of result f.new ≡ decoded_from (suc self.now.shares.shape.t) (find (own_points self.now.shares.shape.t) self.now.shares.shape.t 1 (λ i j. words self.now i k) self.now.set) }
     {
-        self.column(k, values);
+        let mut values = [0; 31];
+        let values = &mut values[..self.shares.shape.n];
+        self.column_by(k, |i| i, values);
         decoding::decode(self.shares.shape.t, values, self.set, f)
     }
 
     // Word k, worked out in full.
-    fn work_out(
-        &self,
-        k: usize,
-        values: &mut [u16],
-        f: &mut [u16],
-        expected: &mut [u16],
-    ) -> Option<Word>
-        requires { (k < self.now.shares.shape.d) × (length values.old ≡ self.now.shares.shape.n) × (length f.old ≡ suc self.now.shares.shape.t) × (length expected.old ≡ suc self.now.shares.shape.n) }
+    fn work_out(&self, k: usize, f: &mut [u16], expected: &mut [u16]) -> Option<Word>
+        requires { (k < self.now.shares.shape.d) × (length f.old ≡ suc self.now.shares.shape.t) × (length expected.old ≡ suc self.now.shares.shape.n) }
         ensures { Came (own_points self.now.shares.shape.t) self.now.shares.shape.t (words self.now) self.now.set k result }
     {
-        let Ok(()) = self.decode_word(k, values, f) else {
+        let Ok(()) = self.decode_word(k, f) else {
             return None; // no polynomial
         };
         evaluate_all(f, expected);
@@ -179,52 +147,33 @@ impl Survivors<'_> {
         })
     }
 
-    // The same, with room for the values.
-    fn work_out_word(&self, k: usize, f: &mut [u16], expected: &mut [u16]) -> Option<Word>
-        requires { (k < self.now.shares.shape.d) × (length f.old ≡ suc self.now.shares.shape.t) × (length expected.old ≡ suc self.now.shares.shape.n) }
-        ensures { Came (own_points self.now.shares.shape.t) self.now.shares.shape.t (words self.now) self.now.set k result }
-    {
-        let n = self.shares.shape.n;
-        let mut values = [0; 31];
-        self.work_out(k, &mut values[..n], f, expected)
-    }
-
     // Word k by the matrix: what is expected at 0 and of the members, and who meets it.
-    fn read_word(
-        &self,
-        k: usize,
-        points: &[u16],
-        matrix: &[[u16; 16]; 32],
-        chosen: &mut [u16],
-        expected: &mut [u16],
-    ) -> u32
-        requires chosen { Chosen self.now.shares.shape.n points.now × Rows self.now.shares.shape.n points.now matrix.now }
-        requires k_lt_d { (k < self.now.shares.shape.d) × (length points.now ≡ suc self.now.shares.shape.t) × (length chosen.old ≡ suc self.now.shares.shape.t) × (length expected.old ≡ suc self.now.shares.shape.n) }
-        ensures expected_after { expected.new ≡ tab (suc self.now.shares.shape.n) (value (interpolate points.now chosen.new)) }
+    fn read_word(&self, k: usize, matrix: &Matrix, chosen: &mut [u16], expected: &mut [u16]) -> u32
+        requires of_n { (matrix.now.n ≡ self.now.shares.shape.n) × (length matrix.now.points.now ≡ suc self.now.shares.shape.t) }
+        requires k_lt_d { (k < self.now.shares.shape.d) × (length chosen.old ≡ suc self.now.shares.shape.t) × (length expected.old ≡ suc self.now.shares.shape.n) }
+        ensures expected_after { expected.new ≡ tab (suc self.now.shares.shape.n) (value (interpolate matrix.now.points.now chosen.new)) }
         ensures value { result ≡ set_of self.now.shares.shape.n (λ i. eqb (get_or expected.new (i + 1) 0) (words self.now i k)) }
     {
-        self.gather(k, points, chosen);
-        lagrange::expect(matrix, chosen, expected);
+        let points = &*matrix.points;
+        self.column_by(k, |m| points[m] as usize - 1, chosen);
+        matrix.expect(chosen, expected);
         self.meeting(k, expected)
     }
 
     // Word k: by the matrix if enough survivors meet what it gives, and else in full.
-    fn find_word(
-        &self,
-        k: usize,
-        points: &[u16],
-        matrix: &[[u16; 16]; 32],
-        f: &mut [u16],
-        expected: &mut [u16],
-    ) -> Option<Word>
-        requires chosen { Chosen self.now.shares.shape.n points.now × Rows self.now.shares.shape.n points.now matrix.now }
-        requires k_lt_d { (k < self.now.shares.shape.d) × (length points.now ≡ suc self.now.shares.shape.t) × (length f.old ≡ suc self.now.shares.shape.t) × (length expected.old ≡ suc self.now.shares.shape.n) }
+    fn open_word(&self, k: usize, matrix: &Matrix) -> Option<Word>
+        requires of_n { (matrix.now.n ≡ self.now.shares.shape.n) × (length matrix.now.points.now ≡ suc self.now.shares.shape.t) }
+        requires k_lt_d { k < self.now.shares.shape.d }
         ensures { Came (own_points self.now.shares.shape.t) self.now.shares.shape.t (words self.now) self.now.set k result }
     {
-        let met = self.read_word(k, points, matrix, f, expected);
+        let mut f = [0; 16];
+        let f = &mut f[..self.shares.shape.t + 1];
+        let mut expected = [0; 32];
+        let expected = &mut expected[..self.shares.shape.n + 1];
+        let met = self.read_word(k, matrix, f, expected);
         let agreeing = both(self.set, met);
         if self.too_few(agreeing) {
-            return self.work_out_word(k, f, expected);
+            return self.work_out(k, f, expected);
         }
         Some(Word {
             anew: false,
@@ -233,42 +182,21 @@ impl Survivors<'_> {
         })
     }
 
-    // The same, with room for one word's values or coefficients, and for what is expected.
-    fn open_word(&self, k: usize, points: &[u16], matrix: &[[u16; 16]; 32]) -> Option<Word>
-        requires chosen { Chosen self.now.shares.shape.n points.now × Rows self.now.shares.shape.n points.now matrix.now }
-        requires k_lt_d { (k < self.now.shares.shape.d) × (length points.now ≡ suc self.now.shares.shape.t) }
-        ensures { Came (own_points self.now.shares.shape.t) self.now.shares.shape.t (words self.now) self.now.set k result }
-    {
-        let coefficients = self.shares.shape.t + 1;
-        let places = self.shares.shape.n + 1;
-        let mut f = [0; 16];
-        let mut expected = [0; 32];
-        self.find_word(
-            k,
-            points,
-            matrix,
-            &mut f[..coefficients],
-            &mut expected[..places],
-        )
-    }
-
-    // The words from `done` on, one after the other: the secret, with those of the survivors that meet every word's polynomial; 16 where a word has none, or where too few are left.
-    fn open_words(
-        &self,
-        done: usize,
-        points: &mut [u16],
-        matrix: &mut [[u16; 16]; 32],
-        secret: &mut [u16],
-    ) -> Result<Opened, Unopened>
-        requires points_len { (length points.old ≡ suc self.now.shares.shape.t) × (length secret.old ≡ self.now.shares.shape.d) }
-        requires chosen { Chosen self.now.shares.shape.n points.old × Rows self.now.shares.shape.n points.old matrix.old }
+    // The words from `done` on, one after the other: the secret, with those of the survivors that meet every word's polynomial; 16 where a word has none, or
+    // where too few are left. A word that was worked out in full is followed by a matrix for the members that still agree.
+    fn open_words(&self, done: usize, secret: &mut [u16]) -> Result<Opened, Unopened>
+        requires secret_len { length secret.old ≡ self.now.shares.shape.d }
         requires begun { Begun (own_points self.now.shares.shape.t) self.now.shares.shape.t self.now.shares.shape.d (words self.now) self.now.set done secret.old }
         ensures { answer_of result secret.new ≡ by_words self.now.shares.shape self.now.shares.words.now self.now.set }
     {
+        let mut points = [0; 16];
+        let points = &mut points[..self.shares.shape.t + 1];
+        let mut rows = [[0; 16]; 32];
         let survivors = self.set;
         let mut agreed = survivors;
+        let mut matrix = lagrange::prepare(self.shares.shape.n, agreed, points, &mut rows);
         for k in done..self.shares.shape.d {
-            let Some(word) = self.open_word(k, points, matrix) else {
+            let Some(word) = self.open_word(k, &matrix) else {
                 return refuse(secret, Refusal::TooFewAgree, survivors); // no polynomial
             };
             secret[k] = word.value;
@@ -276,47 +204,14 @@ impl Survivors<'_> {
             if self.too_few(agreed) {
                 return refuse(secret, Refusal::TooFewAgree, survivors); // too few are left
             }
-            renew(
-                word.anew,
-                k + 1 < self.shares.shape.d,
-                self.shares.shape.n,
-                agreed,
-                points,
-                matrix,
-            );
+            if word.anew && k + 1 < self.shares.shape.d {
+                matrix = matrix.renew(agreed);
+            }
         }
         Ok(Opened {
             survivors,
             agreeing: agreed,
         })
-    }
-
-    // The same, with a matrix for the survivors, which it makes.
-    fn open_prepared(
-        &self,
-        done: usize,
-        points: &mut [u16],
-        matrix: &mut [[u16; 16]; 32],
-        secret: &mut [u16],
-    ) -> Result<Opened, Unopened>
-        requires points_len { (length points.old ≡ suc self.now.shares.shape.t) × (length secret.old ≡ self.now.shares.shape.d) }
-        requires begun { Begun (own_points self.now.shares.shape.t) self.now.shares.shape.t self.now.shares.shape.d (words self.now) self.now.set done secret.old }
-        ensures { answer_of result secret.new ≡ by_words self.now.shares.shape self.now.shares.words.now self.now.set }
-    {
-        lagrange::prepare(self.shares.shape.n, self.set, points, matrix);
-        self.open_words(done, points, matrix, secret)
-    }
-
-    // The same, with room for the matrix and for the points that it is made for.
-    fn open_left(&self, done: usize, secret: &mut [u16]) -> Result<Opened, Unopened>
-        requires secret_len { length secret.old ≡ self.now.shares.shape.d }
-        requires begun { Begun (own_points self.now.shares.shape.t) self.now.shares.shape.t self.now.shares.shape.d (words self.now) self.now.set done secret.old }
-        ensures { answer_of result secret.new ≡ by_words self.now.shares.shape self.now.shares.words.now self.now.set }
-    {
-        let coefficients = self.shares.shape.t + 1;
-        let mut points = [0; 16];
-        let mut matrix = [[0; 16]; 32];
-        self.open_prepared(done, &mut points[..coefficients], &mut matrix, secret)
     }
 
     // The quick look, where all n members survive: it opens the words that pass it before one that does not, and says how many.
@@ -344,7 +239,7 @@ impl Survivors<'_> {
                 agreeing: self.set,
             });
         }
-        self.open_left(done, secret)
+        self.open_words(done, secret)
     }
 }
 
@@ -406,26 +301,6 @@ pub fn open_voted(
 }
 
 // Opening after its checks: the usable members, their votes, and the second half.
-fn open_by_votes(
-    shares: &Shares,
-    day: u16,
-    present: u32,
-    quorum: u16,
-    rows: &mut [u32],
-    secret: &mut [u16],
-) -> Reconstructed
-    requires { (length rows.old ≡ shares.now.shape.n) × (length secret.old ≡ shares.now.shape.d) }
-    ensures { answered_of result secret.new ≡ by_shares shares.now.shape day present quorum shares.now.words.now }
-{
-    let able = voting::usable_members(shares, present);
-    let pairs = voting::fill_rows(shares, day, able, rows);
-    Reconstructed {
-        outcome: open_voted(shares, quorum, able, rows, secret),
-        pairs,
-    }
-}
-
-// The same, with room for the vote rows.
 #[tactic(auto, unfolding(members::specs::Members::size))]
 fn open_shares(
     shares: &Shares,
@@ -437,9 +312,14 @@ fn open_shares(
     requires { length secret.old ≡ shares.now.shape.d }
     ensures { answered_of result secret.new ≡ by_shares shares.now.shape day present quorum shares.now.words.now }
 {
-    let n = shares.shape.n;
     let mut rows = [0; 31];
-    open_by_votes(shares, day, present, quorum, &mut rows[..n], secret)
+    let rows = &mut rows[..shares.shape.n];
+    let able = voting::usable_members(shares, present);
+    let pairs = voting::fill_rows(shares, day, able, rows);
+    Reconstructed {
+        outcome: open_voted(shares, quorum, able, rows, secret),
+        pairs,
+    }
 }
 
 // A refusal before the votes: nothing is counted.

@@ -1,7 +1,7 @@
 -- `lagrange::choose`: there is a member left for each point.
 -- Assumes nothing.
 use Rattle.std.proofs.Common.{refl, arith}
-use Rattle.lagrange.proofs.Matrix.{choosing_first, choosing_next, choosing_last, member_left, first_left}
+use Rattle.lagrange.proofs.Rows.{choosing_first, choosing_next, choosing_last, member_left, first_left}
 use Rattle.lagrange.proofs.choose.Goals as goal
 
 pub loop-point-init : goal.loop-point-init

@@ -1,7 +1,7 @@
 -- `lagrange::fill_rows`: a row that is written leaves those before it as they are.
 -- Assumes nothing.
 use Rattle.std.proofs.Common.{arith, length-set}
-use Rattle.lagrange.proofs.Matrix.{rows_next}
+use Rattle.lagrange.proofs.Rows.{rows_next}
 use Rattle.lagrange.proofs.fill_rows.Goals as goal
 
 pub loop-x-preserved : goal.loop-x-preserved

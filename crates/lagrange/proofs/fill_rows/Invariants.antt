@@ -6,4 +6,4 @@ use Rattle.lagrange.proofs.fill_rows.Given as goal
 
 abbrev pub invariant-loop-x : goal.invariant-loop-x
 invariant-loop-x l =
-    (length l.matrix ≡ 32) × ((z : ℕ) → z < l.x → Reads l.points z (take (length l.points) (get_or l.matrix z [])))
+    (length l.rows ≡ 32) × ((z : ℕ) → z < l.x → Reads l.points z (take (length l.points) (get_or l.rows z [])))

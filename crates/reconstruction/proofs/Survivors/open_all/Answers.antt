@@ -5,8 +5,8 @@ use Rattle.reconstruction.proofs.AllWords.{opening_begun, opening_last}
 use Rattle.reconstruction.proofs.Quick.{quick_begun}
 use Rattle.reconstruction.proofs.Survivors.open_all.Goals as goal
 
-pub open_left-requires-clause-begun : goal.open_left-requires-clause-begun
-open_left-requires-clause-begun c =
+pub open_words-requires-clause-begun : goal.open_words-requires-clause-begun
+open_words-requires-clause-begun c =
     quick_begun c.args.self.now _ _ _ c.open_quickly-done.ensures.secret_after c.requires.secret_len c.open_quickly-done.ensures.value
 
 pub returns-then-done-self : goal.returns-then-done-self

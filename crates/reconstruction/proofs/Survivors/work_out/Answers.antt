@@ -7,4 +7,4 @@ pub returns-in_default : goal.returns-in_default
 returns-in_default c = came_none c.args.self.now _ c.requires.0 _ _ c.in_default.ensures
 
 pub returns : goal.returns
-returns c = came_found c.args.self.now _ c.requires.0 _ c.in-Ok.ensures c.requires.3 c.evaluate_all.ensures c.meeting.ensures
+returns c = came_found c.args.self.now _ c.requires.0 _ c.in-Ok.ensures c.requires.2 c.evaluate_all.ensures c.meeting.ensures

@@ -1,7 +1,7 @@
--- `reconstruction::open_by_votes`: the usable members, and the votes of their shares.
+-- `reconstruction::open_shares`: the usable members, and the votes of their shares.
 -- Assumes nothing.
 use Rattle.reconstruction.proofs.Halves.{votes_voted}
-use Rattle.reconstruction.proofs.open_by_votes.Goals as goal
+use Rattle.reconstruction.proofs.open_shares.Goals as goal
 
 pub open_voted-requires-clause-voted : goal.open_voted-requires-clause-voted
 open_voted-requires-clause-voted c =

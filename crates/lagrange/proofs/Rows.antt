@@ -55,7 +55,8 @@ choosing_first h e =
     }
 
 -- there is a member left for the next point
-pub member_left : {n : ℕ} {points : List ℕ} {rest m : ℕ} → Choosing n points rest m → m < length points → (lowest : Option ℕ) → Lowest rest lowest → IsSome lowest
+pub member_left : {n : ℕ} {points : List ℕ} {rest m : ℕ} → Choosing n points rest m → m < length points
+    → (lowest : Option ℕ) → Lowest rest lowest → IsSome lowest
 member_left C more (Some i) low = refl
 member_left {n} {rest = rest} C more None empty =
     let r = card_some n rest (omega (arith, C.enough)) in
@@ -117,7 +118,8 @@ module _ {n : ℕ} {points : List ℕ} {rest m i : ℕ} (C : Choosing n points r
                   let at : k ≡ m = omega arith in
                   let g : Gone n rest (get_or points j 0) = C.members j (omega arith) in
                   let same : i ≡ g.i =
-                  suc_inj (sym (add-one i) ∙ sym ev ∙ sym here ∙ ap (λ (a : ℕ). get_or (set points m v) a 0) (sym at) ∙ sym e ∙ before j (omega arith) ∙ g.is) in
+                  suc_inj
+                  (sym (add-one i) ∙ sym ev ∙ sym here ∙ ap (λ (a : ℕ). get_or (set points m v) a 0) (sym at) ∙ sym e ∙ before j (omega arith) ∙ g.is) in
                   clash low.member (ap (has rest) same ∙ g.gone)
             ];
       })
@@ -156,7 +158,8 @@ rows_next points matrix x row inside before here =
     (subst (λ (r : List ℕ). Reads points x (take (length points) r)) (sym (get_or-set_same matrix x row [] inside)) here)
 
 -- the sums of products with the rows are values of the polynomial through the words
-pub read_off : (n len : ℕ) (points : List ℕ) (matrix : List (List ℕ)) (words expected : List ℕ) → Rows n points matrix → length words ≡ length points → len ≡ suc n
+pub read_off : (n len : ℕ) (points : List ℕ) (matrix : List (List ℕ)) (words expected : List ℕ) → Rows n points matrix
+    → length words ≡ length points → len ≡ suc n
     → expected ≡ tab len (products matrix words) → expected ≡ tab (suc n) (value (interpolate points words))
 unfolding products
 read_off n len points matrix words expected R e el ee =
