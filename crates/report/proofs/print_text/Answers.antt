@@ -1,5 +1,6 @@
 -- What the reader answers is printed: its shares are opened, or its refusal is told.
 -- Assumes nothing.
+use Rattle.std.proofs.Common.{refl}
 use Rattle.text.proofs.Writing.{written_as}
 use Rattle.report.proofs.Reading.{accepted_range, prints_accepted, prints-unread}
 use Rattle.report.proofs.print_text.Goals as goal
