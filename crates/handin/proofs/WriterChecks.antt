@@ -10,7 +10,6 @@ use lib.Dec.{eqb}
 use lib.ListN.{length, drop, length-append}
 use Rattle.lists.specs.Tabulate.{each}
 use Rattle.std.specs.Prelude.{Ok, Err}
-use Rattle.lists.proofs.Checks.{number_fits}
 use Rattle.members.specs.Members.{is_threshold, size, is_set}
 use Rattle.shares.specs.Layout.{is_length, is_day, width}
 use Rattle.shares.specs.declared.Shape.{Shape}
@@ -67,15 +66,6 @@ module _ (s : Shape) (quorum day present : ℕ) (words : List ℕ) where
 -- ---- the checks before it
 
 module _ (t d quorum day present : ℕ) (words buffer : List ℕ) where
-  -- a refusal's number fits a word
-  pub written_fits : (write t d quorum day present words buffer).number ≤ 65535
-  unfolding write unwritten written each
-  written_fits =
-      let text : List ℕ = text_of t d quorum day present words in
-      number_fits (unwritten buffer) (λ a. a.number) (λ k. refl)
-      (checks t d day present words text buffer)
-      refl (written text buffer) (omega arith)
-
   pub wrote_1 : is_threshold t ≡ false → written_of (Err BadThreshold) buffer ≡ write t d quorum day present words buffer
   unfolding written_of write unwritten
   wrote_1 h = rw h
