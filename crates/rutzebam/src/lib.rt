@@ -2,8 +2,7 @@
 // that is returned is that of the rules, 0 when it is done, and masks, numbers and counts are stored in lent places.
 #![tactic(auto)]
 
-ghost use Rattle.std.specs.Prelude.{◌≡◌, length, MatchResult};
-ghost use Rattle.refusals.specs.Refusals.{number};
+ghost use Rattle.std.specs.Prelude.{◌≡◌, length};
 ghost use Rattle.mac.specs.Tag.{tag as tag_of};
 ghost use Rattle.pruning.specs.Pruning.{prune};
 ghost use Rattle.decoding.specs.Decoding.{decode};
@@ -13,17 +12,7 @@ ghost use Rattle.handin.specs.Reader.{read};
 ghost use Rattle.handin.specs.Writer.{write};
 ghost use Rattle.rutzebam.specs.Calls.{dealt, opened, pruned, decoded, hand_in, hand_in_text};
 
-use refusals::Refusal;
-
-// 0 when it is done, and else the refusal's number.
-fn number_of(outcome: Result<(), Refusal>) -> u16
-    ensures { MatchResult outcome (λ done. result ≡ 0) (λ refusal. result ≡ number refusal) }
-{
-    match outcome {
-        Ok(()) => 0,
-        Err(refusal) => u16::from(refusal),
-    }
-}
+use refusals::number_of;
 
 // Dealing.
 pub fn rutzebam_deal(t: usize, day: u16, secret: &[u16], random: &[u16], shares: &mut [u16]) -> u16
