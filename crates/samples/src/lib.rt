@@ -1,0 +1,25 @@
+// Words of a fixed sequence, on which the test programs run.
+#![tactic(auto)]
+
+ghost use Rattle.std.specs.Prelude.{◌≡◌, ℕ, ◌+◌, ◌*◌, ◌%◌, ◌<◌, ◌^◌, length};
+ghost use Rattle.samples.specs.Iterated.{iterated};
+
+// The next word of a fixed sequence.
+pub fn next(x: u16) -> u16
+    ensures { result ≡ (x * 25173 + 13849) % 65536 }
+{
+    ((x as u32 * 25173 + 13849) % 65536) as u16
+}
+
+// Each word is made from the one before by `next`, the first from the seed.
+pub fn fill<F: Fn(u16) -> u16>(words: &mut [u16], seed: u16, next: F)
+    requires { F.IsAlwaysCallable next }
+    ensures { (f : ℕ → ℕ)
+        → ((x y : ℕ) → x < 2 ^ 16 → F.post next x y → y ≡ f x) → words.new ≡ iterated f (length words.old) seed }
+{
+    let mut last = seed;
+    for word in words {
+        last = next(last);
+        *word = last;
+    }
+}
