@@ -56,16 +56,9 @@ pub fn rutzebam_open(
 pub fn rutzebam_prune(t: usize, rows: &[u32], survivors: &mut u32) -> u16
     ensures { pruned result survivors.new ≡ prune t rows.now }
 {
-    match pruning::prune(t, rows) {
-        Ok(set) => {
-            *survivors = set;
-            0
-        }
-        Err(refusal) => {
-            *survivors = 0;
-            u16::from(refusal)
-        }
-    }
+    let outcome = pruning::prune(t, rows);
+    *survivors = outcome.unwrap_or(0);
+    number_of(outcome)
 }
 
 // Decoding.
@@ -129,14 +122,7 @@ pub fn rutzebam_write(
 ) -> u16
     ensures { hand_in_text result count.new text.new ≡ write t d quorum day present shares.now text.old }
 {
-    match handin::write(t, d, quorum, day, present, shares, text) {
-        Ok(length) => {
-            *count = length;
-            0
-        }
-        Err(refusal) => {
-            *count = 0;
-            u16::from(refusal)
-        }
-    }
+    let outcome = handin::write(t, d, quorum, day, present, shares, text);
+    *count = outcome.unwrap_or(0);
+    number_of(outcome)
 }
