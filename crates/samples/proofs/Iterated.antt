@@ -7,7 +7,7 @@ use native.Mathlib.Omega.{arith}
 use lib.ListN.{length, take, set}
 use Rattle.std.proofs.lemmas.List.{append-nil, take_all}
 use Rattle.lists.proofs.InPlace.{done_set}
-use Rattle.samples.specs.Iterated.{iterated}
+use Rattle.samples.specs.Internal.Iterated.{iterated}
 
 module _ (f : ℕ → ℕ) where
   -- nothing is written yet

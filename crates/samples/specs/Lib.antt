@@ -1,1 +1,1 @@
-pub mod Iterated
+pub mod Internal

@@ -2,7 +2,7 @@
 #![tactic(auto)]
 
 ghost use Rattle.std.specs.Prelude.{◌≡◌, ℕ, ◌+◌, ◌*◌, ◌%◌, ◌<◌, ◌^◌, length};
-ghost use Rattle.samples.specs.Iterated.{iterated};
+ghost use Rattle.samples.specs.Internal.Iterated.{iterated};
 
 // The next word of a fixed sequence.
 pub fn next(x: u16) -> u16

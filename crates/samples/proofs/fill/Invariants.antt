@@ -1,7 +1,7 @@
 -- `samples::fill`: what is written, and then what the last word gives for the places that are left, for every function that the closure computes.
 -- Assumes nothing.
 use Rattle.std.proofs.Common.{◌≡◌, ℕ, ◌-◌, ◌^◌, ◌<◌, ◌++◌, length, take}
-use Rattle.samples.specs.Iterated.{iterated}
+use Rattle.samples.specs.Internal.Iterated.{iterated}
 use Rattle.samples.proofs.fill.Given as goal
 
 abbrev pub invariant-loop-word : goal.invariant-loop-word
