@@ -9,7 +9,7 @@ use native.Mathlib.Omega.{arith}
 use lib.Dec.{leb, eqb}
 use lib.ListN.{length, get_or}
 use borrow.Author.Tests.{ltb-true, eqb-true, eq-eqb, ne_eqb, le-leb, lt-leb}
-use Rattle.lists.specs.Tabulate.{all, each}
+use Rattle.lists.specs.Tabulate.{all}
 use Rattle.lists.specs.Checks.{Check, ◌unless◌, checked}
 use Rattle.lists.proofs.Checks.{within_high}
 use Rattle.field.specs.Field.{is_field_word}
