@@ -1,8 +1,11 @@
-// Words of a fixed sequence, on which the test programs run.
+// Words of a fixed sequence, on which the test programs run, and how they print words.
 #![tactic(auto)]
 
-ghost use Rattle.std.specs.Prelude.{◌≡◌, ℕ, ◌+◌, ◌*◌, ◌%◌, ◌<◌, ◌^◌, length};
+ghost use Rattle.std.specs.Prelude.{◌≡◌, ℕ, ◌+◌, ◌*◌, ◌%◌, ◌<◌, ◌^◌, ◌++◌, length, flat_map, Some};
+ghost use Rattle.std.specs.Fmt.{decimal};
 ghost use Rattle.samples.specs.Internal.Iterated.{iterated};
+
+use std::fmt;
 
 // The next word of a fixed sequence.
 pub fn next(x: u16) -> u16
@@ -21,5 +24,20 @@ pub fn fill<F: Fn(u16) -> u16>(words: &mut [u16], seed: u16, next: F)
     for word in words {
         last = next(last);
         *word = last;
+    }
+}
+
+// Words to print, and the text after each.
+#[derive(Clone, Copy)]
+pub struct Spaced<'a>(pub &'a [u16], pub &'a str);
+
+impl fmt::Display for Spaced<'_> {
+    ghost output = { λ it. Some (flat_map (λ word. decimal word ++ it.1.now) it.0.now) };
+
+    fn fmt<W: fmt::Write>(&self, f: &mut fmt::Formatter<W>) -> fmt::Result {
+        for word in self.0 {
+            write!(f, "{word}{}", self.1)?;
+        }
+        Ok(())
     }
 }

@@ -3,15 +3,8 @@
 #![tactic(auto)]
 
 use refusals::number_of;
+use samples::Spaced;
 use std::io;
-
-// The words, a blank after each. A shared function that prints would need a contract of what is printed, longer than this one.
-fn print_words(rt: &impl Print, words: &[u16]) -> io::Result<()> {
-    for word in words {
-        print!(rt; "{word} ")?;
-    }
-    println!(rt)
-}
 
 // Deals, and prints the number and the whole buffer.
 fn show(
@@ -23,8 +16,8 @@ fn show(
     shares: &mut [u16],
 ) -> io::Result<()> {
     let number = number_of(dealing::deal(t, day, secret, random, shares));
-    print!(rt; "{number} ")?;
-    print_words(rt, shares)
+    let words = Spaced(shares, " ");
+    println!(rt; "{number} {words}")
 }
 
 // Words of a linear congruential generator.

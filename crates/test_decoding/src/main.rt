@@ -3,16 +3,8 @@
 #![tactic(auto)]
 
 use refusals::number_of;
-use samples::{fill, next};
+use samples::{Spaced, fill, next};
 use std::io;
-
-// The words, a tab after each. A shared function that prints would need a contract of what is printed, longer than this one.
-fn show(rt: &impl Print, words: &[u16]) -> io::Result<()> {
-    for word in words {
-        print!(rt; "{word}\t")?;
-    }
-    println!(rt)
-}
 
 // Member i's value: that of the polynomial, or 65535 outside the set.
 fn value(f: &[u16], set: u32, i: usize) -> u16 {
@@ -87,8 +79,8 @@ fn run(
     values_of(f, set, values);
     spoil(g, set, values, case.errors, seed as usize, case.far);
     let number = number_of(decoding::decode(t, values, set, out));
-    print!(rt; "{t}\t{set}\t{}\t{number}\t", case.errors)?;
-    show(rt, out)
+    let words = Spaced(out, "\t");
+    println!(rt; "{t}\t{set}\t{}\t{number}\t{words}", case.errors)
 }
 
 // The same, with buffers that fit.

@@ -2,6 +2,7 @@
 // The expected output was worked out by another program, in arbitrary-precision integers.
 #![tactic(auto)]
 
+use samples::{Spaced, fill, next};
 use std::io;
 
 // Every field call on two words.
@@ -21,9 +22,9 @@ fn pair(rt: &impl Print, a: u16, b: u16) -> io::Result<()> {
 fn far_pairs(rt: &impl Print) -> io::Result<()> {
     let mut a: u16 = 1;
     for _ in 0..100u8 {
-        let b = samples::next(a);
+        let b = next(a);
         pair(rt, a, b)?;
-        a = samples::next(b);
+        a = next(b);
     }
     Ok(())
 }
@@ -43,22 +44,14 @@ fn odd(words: &mut [u16]) {
     }
 }
 
-// The words, a tab after each. A shared function that prints would need a contract of what is printed, longer than this one.
-fn show(rt: &impl Print, words: &[u16]) -> io::Result<()> {
-    for word in words {
-        print!(rt; "{word}\t")?;
-    }
-    println!(rt)
-}
-
 // Words of the sequence as values at odd points: their tag, the coefficients, and the values of these at three points.
 fn interpolated(rt: &impl Print, points: &mut [u16], values: &mut [u16]) -> io::Result<()> {
     odd(points);
-    samples::fill(values, 7, samples::next);
-    show(rt, values)?;
+    fill(values, 7, next);
+    println!(rt; "{}", Spaced(values, "\t"))?;
     print!(rt; "{}\t", mac::tag(12345, 65521, values))?;
     polynomial::interpolate(points, values);
-    show(rt, values)?;
+    println!(rt; "{}", Spaced(values, "\t"))?;
     println!(rt;
         "{}\t{}\t{}\t",
         polynomial::evaluate(values, 0),
