@@ -3,13 +3,13 @@
 use mathlib.Core.Path.{◌≡◌, refl, sym, ap, ap₂, ◌∙◌}
 use mathlib.Core.Bool.{true, false}
 use mathlib.Core.List.{List}
-use Prim.Native.Nat.{ℕ, ◌+◌, ◌*◌, ◌≤◌, zero-le}
+use Prim.Native.Nat.{ℕ, ◌+◌, ◌*◌, ◌≤◌}
 use native.Mathlib.Nat.{le_refl}
 use lib.Dec.{eqb}
 use lib.ListN.{length}
 use borrow.Author.Tests.{eq-eqb, ne_eqb}
 use Rattle.lists.specs.Tabulate.{each}
-use Rattle.lists.proofs.Checks.{all_pass, number_fits}
+use Rattle.lists.proofs.Checks.{all_pass}
 use Rattle.lists.proofs.Every.{Every}
 use Rattle.field.specs.Field.{is_field_word}
 use Rattle.members.specs.Members.{is_threshold, size, own_points}
@@ -101,13 +101,6 @@ module _ (t day : ℕ) (secret random buffer : List ℕ) where
         room = e₄;
         dealt = sym (dealt e₁ e₂ e random_long (e₄ ∙ buffer_is s et ed) e₅ e₆ (dealt_shares (own_points t) t day secret random) refl);
       }
-
-  -- the answer's number fits a word
-  pub dealt_fits : (deal t day secret random buffer).number ≤ 65535
-  unfolding deal each
-  dealt_fits =
-      number_fits (refusal buffer) (λ a. a.number) (λ k. refl) (checks t day secret random buffer) refl
-      (record { number = 0; shares = dealt_shares (own_points t) t day secret random }) zero-le
 
   -- an accepted input has passed all checks
   pub all_accept : (deal t day secret random buffer).number ≡ 0 → Every (λ c. c.passes ≡ true) (checks t day secret random buffer)

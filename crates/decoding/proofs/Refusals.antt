@@ -2,17 +2,16 @@
 -- Assumes nothing.
 use mathlib.Core.Path.{◌≡◌, refl, sym, ap, ◌∙◌}
 use mathlib.Core.Bool.{Bool, true, false, ◌||◌, not}
-use mathlib.Core.Option.{Option, none, some}
 use mathlib.Core.List.{List, [], ◌∷◌}
-use Prim.Native.Nat.{ℕ, suc, ◌+◌, ◌≤◌, ◌<◌, ◌^◌, zero-le, suc-le-suc}
+use Prim.Native.Nat.{ℕ, suc, ◌+◌, ◌≤◌, ◌<◌, ◌^◌, suc-le-suc}
 use native.Mathlib.Numerals.{add-one}
 use native.Mathlib.Omega.{arith}
 use lib.Dec.{leb, eqb}
 use lib.ListN.{length, get_or}
 use borrow.Author.Tests.{ltb-true, eqb-true, eq-eqb, ne_eqb, le-leb, lt-leb}
-use Rattle.lists.specs.Tabulate.{all, each}
+use Rattle.lists.specs.Tabulate.{all}
 use Rattle.lists.specs.Checks.{Check, ◌unless◌, checked}
-use Rattle.lists.proofs.Checks.{number_fits, within_high}
+use Rattle.lists.proofs.Checks.{within_high}
 use Rattle.field.specs.Field.{is_field_word}
 use Rattle.members.specs.Members.{is_threshold, size, own_points, has, is_set, card, first_of}
 use Rattle.members.proofs.Words.{size-le, first_of-is_set, card_32}
@@ -50,18 +49,6 @@ module _ (t : ℕ) (values : List ℕ) (set len : ℕ) where
       by_checks
       ∙ rw (a, b, c, d, e, f)
       (ap (λ (n : ℕ). decoded_from n (find (own_points t) t 1 (λ i k. get_or values i 0) set)) (eqb-true len (suc t) c))
-
-  found_fits : (o : Option (List (List ℕ))) → (decoded_from len o).number ≤ 65535
-  unfolding decoded_from undecoded
-  found_fits none = omega arith
-  found_fits (some fs) = zero-le
-
-  -- the answer's number fits a word
-  pub decoded_fits : (decode t values set len).number ≤ 65535
-  unfolding undecoded each decoded checks
-  decoded_fits =
-      rw by_checks
-      (number_fits (undecoded len) (λ a. a.number) (λ k. refl) checks refl decoded (found_fits (find (own_points t) t 1 (λ i k. get_or values i 0) set)))
 
   -- ---- the same, by what the code finds out, each check after those before it passed
 

@@ -1,6 +1,6 @@
 -- The writer's checks in their order, as the code makes them; and the text, where it fits.
 -- Assumes nothing.
-use mathlib.Core.Path.{◌≡◌, refl, ap, ap₂, ◌∙◌}
+use mathlib.Core.Path.{◌≡◌, ap, ap₂, ◌∙◌}
 use mathlib.Core.Bool.{true, false}
 use mathlib.Core.List.{List, ◌++◌}
 use Prim.Native.Nat.{ℕ, ◌+◌, ◌*◌, ◌≤◌, ◌<◌}
@@ -8,15 +8,13 @@ use native.Mathlib.Omega.{arith}
 use borrow.Author.Tests.{le-leb, lt-leb}
 use lib.Dec.{eqb}
 use lib.ListN.{length, drop, length-append}
-use Rattle.lists.specs.Tabulate.{each}
 use Rattle.std.specs.Prelude.{Ok, Err}
-use Rattle.lists.proofs.Checks.{number_fits}
 use Rattle.members.specs.Members.{is_threshold, size, is_set}
 use Rattle.shares.specs.Layout.{is_length, is_day, width}
 use Rattle.shares.specs.declared.Shape.{Shape}
 use Rattle.text.specs.Internal.Writing.{Written}
 use Rattle.text.proofs.Writing.{written_then, written_as, written_front, written_count}
-use Rattle.handin.specs.Writer.{HandInText, first_line, share_lines, text_of, unwritten, written, checks, write}
+use Rattle.handin.specs.Writer.{HandInText, first_line, share_lines, text_of, unwritten, written, write}
 use Rattle.handin.specs.Internal.Fitted.{fitted}
 use Rattle.handin.specs.Answer.{written_of}
 use Rattle.refusals.specs.declared.Refusal.TheVariants.{BadThreshold, BadSecretLength, BadDay, BadInputLength, MemberBeyondN, TextBufferTooShort}
@@ -67,15 +65,6 @@ module _ (s : Shape) (quorum day present : ℕ) (words : List ℕ) where
 -- ---- the checks before it
 
 module _ (t d quorum day present : ℕ) (words buffer : List ℕ) where
-  -- a refusal's number fits a word
-  pub written_fits : (write t d quorum day present words buffer).number ≤ 65535
-  unfolding write unwritten written each
-  written_fits =
-      let text : List ℕ = text_of t d quorum day present words in
-      number_fits (unwritten buffer) (λ a. a.number) (λ k. refl)
-      (checks t d day present words text buffer)
-      refl (written text buffer) (omega arith)
-
   pub wrote_1 : is_threshold t ≡ false → written_of (Err BadThreshold) buffer ≡ write t d quorum day present words buffer
   unfolding written_of write unwritten
   wrote_1 h = rw h

@@ -25,10 +25,6 @@ test false = inr refl
 pub clash : {b : Bool} → b ≡ true → b ≡ false → ⊥
 clash p q = true≢false (sym p ∙ q)
 
-pub false_of : (b : Bool) → (b ≡ true → ⊥) → b ≡ false
-false_of true h = absurd (h refl)
-false_of false h = refl
-
 -- a test that the code negates
 pub fails : (r b : Bool) → r ≡ b → not r ≡ true → b ≡ false
 fails r b e h = sym e ∙ not-true r h

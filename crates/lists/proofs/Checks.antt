@@ -3,11 +3,11 @@
 use mathlib.Core.Path.{◌≡◌, refl, ap, ◌∙◌}
 use mathlib.Core.Bool.{Bool, true, false}
 use mathlib.Core.List.{List, [], ◌∷◌}
-use Prim.Native.Nat.{ℕ, zero, suc, ◌≤◌, ◌<◌}
+use Prim.Native.Nat.{ℕ, ◌≤◌, ◌<◌}
 use native.Mathlib.Omega.{arith}
 use borrow.Author.Tests.{ltb-true, leb-true, le-leb}
 use lib.Dec.{leb, ltb}
-use Rattle.lists.specs.Checks.{Check, ◌unless◌, checked, within, refusal}
+use Rattle.lists.specs.Checks.{Check, ◌unless◌, checked, within}
 use Rattle.lists.specs.Tabulate.{each}
 use Rattle.lists.proofs.Blocks.{each_every}
 use Rattle.lists.proofs.Bools.{and_intro, and_left, and_right}
@@ -74,8 +74,3 @@ within_low low high x h = leb-true low x (and_left (leb low x) (leb x high) h)
 
 pub within_high : (low high x : ℕ) → within low high x ≡ true → x ≤ high
 within_high low high x h = leb-true x high (and_right (leb low x) (leb x high) h)
-
--- a refusal's number that fits a word is the one that was given
-pub refusal_is : (k : ℕ) → refusal k ≤ 65535 → refusal k ≡ k
-refusal_is zero h = absurd (omega (arith, h))
-refusal_is (suc k) h = refl

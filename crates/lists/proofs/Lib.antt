@@ -13,5 +13,4 @@ pub mod StoredBlocks
 pub mod Loops
 pub mod Stores
 pub mod Sums
-pub mod Tables
 pub mod Tabulate

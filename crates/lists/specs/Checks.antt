@@ -1,6 +1,6 @@
 -- Checks in an order: an operation refuses with the number of the first check that fails.
 -- Assumes nothing.
-use Rattle.std.specs.Prelude.{ℕ, zero, suc, Bool, true, false, ◌&&◌, List, [], ◌∷◌, leb}
+use Rattle.std.specs.Prelude.{ℕ, Bool, true, false, ◌&&◌, List, [], ◌∷◌, leb}
 
 infix 68 ◌unless◌
 -- a refusal's number, and the test that an accepted input passes
@@ -19,8 +19,3 @@ checked refuse (c ∷ cs) answer = elim c.passes [ true ↦ checked refuse cs an
 -- low ≤ x ≤ high
 abbrev pub within : ℕ → ℕ → ℕ → Bool
 within low high x = leb low x && leb x high
-
--- The number that an answer of refusal gives. No refusal has the number 0, so an answer that gives it stands for none of document 01's.
-abbrev pub refusal : ℕ → ℕ
-refusal zero = 65536
-refusal (suc k) = suc k

@@ -13,9 +13,8 @@ use lib.Dec.{eqb, ltb}
 use lib.ListN.{length, get_or}
 use borrow.Author.Tests.{eq-eqb, le-leb, lt-ltb, ltb-false}
 use Rattle.std.specs.Prelude.{Result, Ok, Err}
-use Rattle.refusals.specs.Refusals.{number}
 use Rattle.refusals.specs.declared.Refusal.{Refusal}
-use Rattle.refusals.specs.declared.Refusal.TheVariants as the
+use Rattle.refusals.proofs.Numbers.{positive}
 use Rattle.lists.specs.Tabulate.{tab, all}
 use Rattle.lists.proofs.Bools.{test}
 use Rattle.lists.proofs.Every.{Every}
@@ -42,37 +41,11 @@ use Rattle.reconstruction.specs.declared.Survivors.{Survivors}
 use Rattle.reconstruction.specs.Internal.Steps.{Decodable, Got}
 use Rattle.reconstruction.proofs.Sets.{both_of}
 
--- no refusal has the number 0
-refusal_pos : (why : Refusal) → 1 ≤ number why
-refusal_pos the.BadThreshold = omega arith
-refusal_pos the.BadSecretLength = omega arith
-refusal_pos the.BadRandomLength = omega arith
-refusal_pos the.BadSharesLength = omega arith
-refusal_pos the.BadSecretWord = omega arith
-refusal_pos the.BadRandomWord = omega arith
-refusal_pos the.BadRowsLength = omega arith
-refusal_pos the.BadInputLength = omega arith
-refusal_pos the.MemberBeyondN = omega arith
-refusal_pos the.BadQuorum = omega arith
-refusal_pos the.QuorumNotMet = omega arith
-refusal_pos the.NoSurvivors = omega arith
-refusal_pos the.TooFewAgree = omega arith
-refusal_pos the.SetTooSmall = omega arith
-refusal_pos the.BadValue = omega arith
-refusal_pos the.BadCoefficientsLength = omega arith
-refusal_pos the.TextTooLong = omega arith
-refusal_pos the.BadFirstLine = omega arith
-refusal_pos the.BadLine = omega arith
-refusal_pos the.BadLineMember = omega arith
-refusal_pos the.BadBufferLength = omega arith
-refusal_pos the.TextBufferTooShort = omega arith
-refusal_pos the.BadDay = omega arith
-
 -- a refusal means that there is no polynomial
 refused_none : (len : ℕ) (why : Refusal) (buffer : List ℕ) (o : Option (List (List ℕ))) → answer_of (Err why) buffer ≡ decoded_from len o → o ≡ none
 unfolding decoded_from
 refused_none len why buffer none e = refl
-refused_none len why buffer (some fs) e = absurd (omega (arith, refusal_pos why, ap (λ (a : Decoded). a.number) e))
+refused_none len why buffer (some fs) e = absurd (omega (arith, positive why, ap (λ (a : Decoded). a.number) e))
 
 -- the one of a list of one
 pub single : (fs : List (List ℕ)) → length fs ≡ 1 → fs ≡ nth fs 0 ∷ []

@@ -4,7 +4,6 @@ pub mod ByWord
 pub mod Examples
 pub mod Halves
 pub mod Meaning
-pub mod Numbers
 pub mod Opening
 pub mod Order
 pub mod Quick

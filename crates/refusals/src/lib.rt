@@ -1,7 +1,7 @@
 // Why a call refuses its input. The names are those of the C header, and each has the rules' number.
 #![tactic(auto)]
 
-ghost use Rattle.std.specs.Prelude.{◌≡◌};
+ghost use Rattle.std.specs.Prelude.{◌≡◌, MatchResult};
 ghost use Rattle.refusals.specs.Refusals.{number};
 
 #[derive(Clone, Copy, Debug, PartialEq, Eq)]
@@ -61,5 +61,15 @@ impl From<Refusal> for u16 {
             Refusal::TextBufferTooShort => 31,
             Refusal::BadDay => 32,
         }
+    }
+}
+
+// 0 when it is done, and else the refusal's number.
+pub fn number_of<T: Drop>(outcome: Result<T, Refusal>) -> u16
+    ensures { MatchResult outcome (λ done. result ≡ 0) (λ refusal. result ≡ number refusal) }
+{
+    match outcome {
+        Ok(_) => 0,
+        Err(refusal) => u16::from(refusal),
     }
 }

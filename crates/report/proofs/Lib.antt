@@ -3,4 +3,3 @@ pub mod Examples
 pub mod Lines
 pub mod Opening
 pub mod Reading
-pub mod Refusals

@@ -17,7 +17,7 @@ use Rattle.reconstruction.specs.declared.Unopened.{Unopened}
 use Rattle.text.specs.Lines.{line}
 use Rattle.report.specs.Report.{word_line, print_opened}
 use Rattle.report.specs.Internal.Printing.{word_lines, opening}
-use Rattle.report.proofs.Refusals.{numbered}
+use Rattle.refusals.proofs.Numbers.{numbered}
 
 -- one arm of what is printed
 pub picked : {b c : Bool} (opened refused : List ℕ) → b ≡ c

@@ -20,7 +20,7 @@ use Rattle.text.specs.Lines.{line}
 use Rattle.report.specs.Report.{print_opened, print_read, report}
 use Rattle.report.specs.Internal.Printing.{opening}
 use Rattle.report.proofs.Opening.{picked}
-use Rattle.report.proofs.Refusals.{numbered}
+use Rattle.refusals.proofs.Numbers.{numbered}
 
 module _ (text words : List ℕ) (len : ℕ) (full : len ≡ capacity) where
   module _ (h : HandIn) (answers : answer_of (Ok h) words ≡ read text len) where

@@ -2,8 +2,7 @@
 // that is returned is that of the rules, 0 when it is done, and masks, numbers and counts are stored in lent places.
 #![tactic(auto)]
 
-ghost use Rattle.std.specs.Prelude.{◌≡◌, length, MatchResult};
-ghost use Rattle.refusals.specs.Refusals.{number};
+ghost use Rattle.std.specs.Prelude.{◌≡◌, length};
 ghost use Rattle.mac.specs.Tag.{tag as tag_of};
 ghost use Rattle.pruning.specs.Pruning.{prune};
 ghost use Rattle.decoding.specs.Decoding.{decode};
@@ -13,17 +12,7 @@ ghost use Rattle.handin.specs.Reader.{read};
 ghost use Rattle.handin.specs.Writer.{write};
 ghost use Rattle.rutzebam.specs.Calls.{dealt, opened, pruned, decoded, hand_in, hand_in_text};
 
-use refusals::Refusal;
-
-// 0 when it is done, and else the refusal's number.
-fn number_of(outcome: Result<(), Refusal>) -> u16
-    ensures { MatchResult outcome (λ done. result ≡ 0) (λ refusal. result ≡ number refusal) }
-{
-    match outcome {
-        Ok(()) => 0,
-        Err(refusal) => u16::from(refusal),
-    }
-}
+use refusals::number_of;
 
 // Dealing.
 pub fn rutzebam_deal(t: usize, day: u16, secret: &[u16], random: &[u16], shares: &mut [u16]) -> u16
@@ -67,16 +56,9 @@ pub fn rutzebam_open(
 pub fn rutzebam_prune(t: usize, rows: &[u32], survivors: &mut u32) -> u16
     ensures { pruned result survivors.new ≡ prune t rows.now }
 {
-    match pruning::prune(t, rows) {
-        Ok(set) => {
-            *survivors = set;
-            0
-        }
-        Err(refusal) => {
-            *survivors = 0;
-            u16::from(refusal)
-        }
-    }
+    let outcome = pruning::prune(t, rows);
+    *survivors = outcome.unwrap_or(0);
+    number_of(outcome)
 }
 
 // Decoding.
@@ -140,14 +122,7 @@ pub fn rutzebam_write(
 ) -> u16
     ensures { hand_in_text result count.new text.new ≡ write t d quorum day present shares.now text.old }
 {
-    match handin::write(t, d, quorum, day, present, shares, text) {
-        Ok(length) => {
-            *count = length;
-            0
-        }
-        Err(refusal) => {
-            *count = 0;
-            u16::from(refusal)
-        }
-    }
+    let outcome = handin::write(t, d, quorum, day, present, shares, text);
+    *count = outcome.unwrap_or(0);
+    number_of(outcome)
 }

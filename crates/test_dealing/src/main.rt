@@ -2,26 +2,9 @@
 // share buffer at exit. The file stdout beside this folder is what another implementation answers, model.py.
 #![tactic(auto)]
 
-use refusals::Refusal;
+use refusals::number_of;
+use samples::Spaced;
 use std::io;
-
-fn number(outcome: Result<(), Refusal>) -> u16 {
-    match outcome {
-        Ok(()) => 0,
-        Err(refusal) => u16::from(refusal),
-    }
-}
-
-fn print_word(rt: &impl Print, word: u16) -> io::Result<()> {
-    print!(rt; "{word} ")
-}
-
-fn print_words(rt: &impl Print, words: &[u16]) -> io::Result<()> {
-    for word in words {
-        print_word(rt, *word)?;
-    }
-    println!(rt)
-}
 
 // Deals, and prints the number and the whole buffer.
 fn show(
@@ -32,23 +15,20 @@ fn show(
     random: &[u16],
     shares: &mut [u16],
 ) -> io::Result<()> {
-    print_word(rt, number(dealing::deal(t, day, secret, random, shares)))?;
-    print_words(rt, shares)
+    let number = number_of(dealing::deal(t, day, secret, random, shares));
+    let words = Spaced(shares, " ");
+    println!(rt; "{number} {words}")
 }
 
 // Words of a linear congruential generator.
 fn scramble(words: &mut [u16], seed: u16) {
-    let mut x = seed;
-    for word in words {
-        x = field::add_product(12345, 25173, x);
-        *word = x;
-    }
+    samples::fill(words, seed, |x| field::add_product(12345, 25173, x));
 }
 
 // Every 101st word.
 fn print_samples(rt: &impl Print, words: &[u16]) -> io::Result<()> {
     for word in words.iter().step_by(101) {
-        print_word(rt, *word)?;
+        print!(rt; "{word} ")?;
     }
     println!(rt)
 }
@@ -64,10 +44,10 @@ fn show_scrambled(
 ) -> io::Result<()> {
     scramble(secret, 1);
     scramble(random, 2);
-    print_word(rt, number(dealing::deal(t, day, secret, random, shares)))?;
+    let number = number_of(dealing::deal(t, day, secret, random, shares));
+    print!(rt; "{number} ")?;
     print_samples(rt, shares)?;
-    print_word(rt, polynomial::evaluate(shares, 31))?;
-    println!(rt)
+    println!(rt; "{} ", polynomial::evaluate(shares, 31))
 }
 
 fn show_largest(rt: &impl Print) -> io::Result<()> {

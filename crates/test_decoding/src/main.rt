@@ -2,38 +2,9 @@
 // The expected output was worked out by another program, which solves the key equation by elimination.
 #![tactic(auto)]
 
-use refusals::Refusal;
+use refusals::number_of;
+use samples::{Spaced, fill, next};
 use std::io;
-
-// A number and a tab.
-fn field(rt: &impl Print, n: u32) -> io::Result<()> {
-    print!(rt; "{n}\t")
-}
-
-fn end_line(rt: &impl Print) -> io::Result<()> {
-    println!(rt)
-}
-
-fn show(rt: &impl Print, words: &[u16]) -> io::Result<()> {
-    for word in words {
-        field(rt, u32::from(*word))?;
-    }
-    end_line(rt)
-}
-
-// The next word of a fixed sequence.
-fn next(x: u16) -> u16 {
-    ((x as u32 * 25173 + 13849) % 65536) as u16
-}
-
-// Words of the sequence.
-fn fill(words: &mut [u16], seed: u16) {
-    let mut a = seed;
-    for word in words {
-        a = next(a);
-        *word = a;
-    }
-}
 
 // Member i's value: that of the polynomial, or 65535 outside the set.
 fn value(f: &[u16], set: u32, i: usize) -> u16 {
@@ -71,14 +42,6 @@ fn spoil(g: &[u16], set: u32, values: &mut [u16], errors: usize, from: usize, fa
     }
 }
 
-// The number of the refusal, or 0.
-fn number(outcome: Result<(), Refusal>) -> u16 {
-    match outcome {
-        Ok(()) => 0,
-        Err(refusal) => u16::from(refusal),
-    }
-}
-
 // A word to decode: how many of the set's members have a wrong value, what it is made from, and whether the wrong values lie on one other polynomial.
 #[derive(Clone, Copy)]
 struct Case {
@@ -111,16 +74,13 @@ fn run(
     let t = case.t;
     let set = case.set;
     let seed = case.seed;
-    fill(f, seed);
-    fill(g, next(seed));
+    fill(f, seed, next);
+    fill(g, next(seed), next);
     values_of(f, set, values);
     spoil(g, set, values, case.errors, seed as usize, case.far);
-    let o = decoding::decode(t, values, set, out);
-    field(rt, (t % 32) as u32)?;
-    field(rt, set)?;
-    field(rt, (case.errors % 32) as u32)?;
-    field(rt, number(o) as u32)?;
-    show(rt, out)
+    let number = number_of(decoding::decode(t, values, set, out));
+    let words = Spaced(out, "\t");
+    println!(rt; "{t}\t{set}\t{}\t{number}\t{words}", case.errors)
 }
 
 // The same, with buffers that fit.

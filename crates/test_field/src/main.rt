@@ -2,33 +2,20 @@
 // The expected output was worked out by another program, in arbitrary-precision integers.
 #![tactic(auto)]
 
+use samples::{Spaced, fill, next};
 use std::io;
-
-// A number and a tab.
-fn field(rt: &impl Print, n: u16) -> io::Result<()> {
-    print!(rt; "{n}\t")
-}
-
-fn end_line(rt: &impl Print) -> io::Result<()> {
-    println!(rt)
-}
-
-// The next word of a fixed sequence.
-fn next(x: u16) -> u16 {
-    ((x as u32 * 25173 + 13849) % 65536) as u16
-}
 
 // Every field call on two words.
 fn pair(rt: &impl Print, a: u16, b: u16) -> io::Result<()> {
-    field(rt, a)?;
-    field(rt, b)?;
-    field(rt, field::add(a, b))?;
-    field(rt, field::subtract(a, b))?;
-    field(rt, field::multiply(a, b))?;
-    field(rt, field::add_product(b, a, a))?;
-    field(rt, field::inverse(a))?;
-    field(rt, field::inverse_of_difference(a, b))?;
-    end_line(rt)
+    println!(rt;
+        "{a}\t{b}\t{}\t{}\t{}\t{}\t{}\t{}\t",
+        field::add(a, b),
+        field::subtract(a, b),
+        field::multiply(a, b),
+        field::add_product(b, a, a),
+        field::inverse(a),
+        field::inverse_of_difference(a, b)
+    )
 }
 
 // Pairs of words of the sequence.
@@ -50,15 +37,6 @@ fn near_pairs(rt: &impl Print) -> io::Result<()> {
     Ok(())
 }
 
-// Words of the sequence.
-fn fill(words: &mut [u16]) {
-    let mut a: u16 = 7;
-    for word in words {
-        a = next(a);
-        *word = a;
-    }
-}
-
 // 1, 3, 5, ..
 fn odd(words: &mut [u16]) {
     for (i, word) in words.iter_mut().enumerate() {
@@ -66,33 +44,30 @@ fn odd(words: &mut [u16]) {
     }
 }
 
-fn show(rt: &impl Print, words: &[u16]) -> io::Result<()> {
-    for word in words {
-        field(rt, *word)?;
-    }
-    end_line(rt)
-}
-
 // Words of the sequence as values at odd points: their tag, the coefficients, and the values of these at three points.
 fn interpolated(rt: &impl Print, points: &mut [u16], values: &mut [u16]) -> io::Result<()> {
     odd(points);
-    fill(values);
-    show(rt, values)?;
-    field(rt, mac::tag(12345, 65521, values))?;
+    fill(values, 7, next);
+    println!(rt; "{}", Spaced(values, "\t"))?;
+    print!(rt; "{}\t", mac::tag(12345, 65521, values))?;
     polynomial::interpolate(points, values);
-    show(rt, values)?;
-    field(rt, polynomial::evaluate(values, 0))?;
-    field(rt, polynomial::evaluate(values, 31))?;
-    field(rt, polynomial::evaluate(values, 65535))?;
-    end_line(rt)
+    println!(rt; "{}", Spaced(values, "\t"))?;
+    println!(rt;
+        "{}\t{}\t{}\t",
+        polynomial::evaluate(values, 0),
+        polynomial::evaluate(values, 31),
+        polynomial::evaluate(values, 65535)
+    )
 }
 
 fn main(rt: HostRuntime) -> io::Result<()> {
-    field(&rt, field::multiply(65520, 65520))?;
-    field(&rt, field::inverse(2))?;
-    field(&rt, mac::tag(4, 5, &[2, 3]))?;
-    field(&rt, mac::tag(1, 1, &[65520]))?;
-    end_line(&rt)?;
+    println!(rt;
+        "{}\t{}\t{}\t{}\t",
+        field::multiply(65520, 65520),
+        field::inverse(2),
+        mac::tag(4, 5, &[2, 3]),
+        mac::tag(1, 1, &[65520])
+    )?;
     far_pairs(&rt)?;
     near_pairs(&rt)?;
     interpolated(&rt, &mut [0; 16], &mut [0; 16])?;

@@ -22,18 +22,12 @@ fn checksum(words: &[u16]) -> u64 {
     sum
 }
 
-fn print(rt: &impl Print, number: u64, last: char) -> io::Result<()> {
-    print!(rt; "{number}{last}")
-}
-
 fn show(rt: &impl Print, number: u16, met: HandIn, words: &[u16]) -> io::Result<()> {
-    print(rt, u64::from(number), '\t')?;
-    print(rt, met.t as u64, '\t')?;
-    print(rt, met.d as u64, '\t')?;
-    print(rt, u64::from(met.quorum), '\t')?;
-    print(rt, u64::from(met.day), '\t')?;
-    print(rt, u64::from(met.present), '\t')?;
-    print(rt, checksum(words), '\n')
+    let sum = checksum(words);
+    println!(rt;
+        "{number}\t{}\t{}\t{}\t{}\t{}\t{sum}",
+        met.t, met.d, met.quorum, met.day, met.present
+    )
 }
 
 fn reads(rt: &impl Print, text: &[u8], words: &mut [u16]) -> io::Result<()> {
@@ -194,8 +188,7 @@ fn other_members(rt: &impl Print, words: &mut [u16]) -> io::Result<()> {
 }
 
 fn show_text(rt: &impl Print, number: u16, count: usize, text: &[u8]) -> io::Result<()> {
-    print(rt, number as u64, '\t')?;
-    print(rt, count as u64, '\n')?;
+    println!(rt; "{number}\t{count}")?;
     rt.write_all(text)?;
     println!(rt)
 }

@@ -1,19 +1,12 @@
 // Prunes tables of votes, and compares what is left with another way of finding the largest set.
 #![tactic(auto)]
 
+use refusals::number_of;
 use std::io;
 
 // What pruning leaves; all 32 bits, which it never leaves, where it refuses.
 fn left(t: usize, rows: &[u32]) -> u32 {
     pruning::prune(t, rows).unwrap_or(4294967295)
-}
-
-// The number of the refusal, or 0.
-fn number(t: usize, rows: &[u32]) -> u16 {
-    match pruning::prune(t, rows) {
-        Ok(_) => 0,
-        Err(refusal) => u16::from(refusal),
-    }
 }
 
 // Common members, counted bit by bit.
@@ -113,10 +106,6 @@ fn chain(rows: &mut [u32; 31], first: u32) {
     rows[0] = first;
 }
 
-fn line(rt: &impl Print, label: &str, n: u64) -> io::Result<()> {
-    println!(rt; "{label}{n}")
-}
-
 // How many tables agree, how many of them leave nobody and everybody, and the sum of what is left.
 #[derive(Clone, Copy, Default)]
 struct Tally {
@@ -137,10 +126,10 @@ fn more(t: Tally, all: u32, set: u32) -> Tally {
 }
 
 fn report(rt: &impl Print, t: Tally) -> io::Result<()> {
-    line(rt, "tables that agree: ", t.agree)?;
-    line(rt, "that leave nobody: ", t.nobody)?;
-    line(rt, "that leave everybody: ", t.everybody)?;
-    line(rt, "sum of what is left: ", t.sum)
+    println!(rt; "tables that agree: {}", t.agree)?;
+    println!(rt; "that leave nobody: {}", t.nobody)?;
+    println!(rt; "that leave everybody: {}", t.everybody)?;
+    println!(rt; "sum of what is left: {}", t.sum)
 }
 
 // What both ways leave, pruning and another; all 32 bits where they differ.
@@ -179,19 +168,18 @@ fn large() -> Tally {
 }
 
 fn main(rt: HostRuntime) -> io::Result<()> {
-    line(&rt, "C6: ", left(1, &[3, 6, 4]) as u64)?;
-    line(&rt, "C7: ", left(1, &[7, 7, 7]) as u64)?;
-    line(&rt, "C8: ", left(1, &[3, 3, 4]) as u64)?;
-    line(&rt, "no threshold: ", number(0, &[8]) as u64)?;
-    line(&rt, "threshold 16: ", number(16, &[8]) as u64)?;
-    line(&rt, "one row: ", number(1, &[8]) as u64)?;
-    line(&rt, "a bit beyond member 3: ", number(1, &[3, 3, 8]) as u64)?;
-    line(&rt, "a chain of 31: ", chained(65535) as u64)?;
-    line(
-        &rt,
-        "one vote short at its first member: ",
-        chained(32767) as u64,
+    println!(rt; "C6: {}", left(1, &[3, 6, 4]))?;
+    println!(rt; "C7: {}", left(1, &[7, 7, 7]))?;
+    println!(rt; "C8: {}", left(1, &[3, 3, 4]))?;
+    println!(rt; "no threshold: {}", number_of(pruning::prune(0, &[8])))?;
+    println!(rt; "threshold 16: {}", number_of(pruning::prune(16, &[8])))?;
+    println!(rt; "one row: {}", number_of(pruning::prune(1, &[8])))?;
+    println!(rt;
+        "a bit beyond member 3: {}",
+        number_of(pruning::prune(1, &[3, 3, 8]))
     )?;
+    println!(rt; "a chain of 31: {}", chained(65535))?;
+    println!(rt; "one vote short at its first member: {}", chained(32767))?;
     report(&rt, small())?;
     report(&rt, large())
 }

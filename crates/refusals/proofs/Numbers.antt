@@ -2,7 +2,10 @@
 -- Assumes nothing.
 use mathlib.Core.Path.{◌≡◌, refl}
 use mathlib.Core.Bool.{false}
+use Prim.Native.Nat.{◌≤◌}
+use native.Mathlib.Omega.{arith}
 use lib.Dec.{eqb}
+use borrow.Author.Tests.{eqb-false}
 use Rattle.refusals.specs.declared.Refusal.{Refusal}
 use Rattle.refusals.specs.declared.Refusal.TheVariants as the
 use Rattle.refusals.specs.Refusals.{number}
@@ -31,3 +34,7 @@ numbered the.BadLineMember = refl
 numbered the.BadBufferLength = refl
 numbered the.TextBufferTooShort = refl
 numbered the.BadDay = refl
+
+-- so it is 1 at least
+pub positive : (k : Refusal) → 1 ≤ number k
+positive k = omega (arith, eqb-false (number k) 0 (numbered k))
