@@ -28,6 +28,7 @@ struct Supply<'a> {
     day: u16,
     secret: &'a [u16],
     random: &'a [u16],
+    // `station` follows from the shape; without it the check leaves thirteen goals open.
     ghost station: { Station shape },
     ghost supplied: { Supplied shape secret.now random.now },
 }

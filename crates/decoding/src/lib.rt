@@ -106,8 +106,8 @@ impl Word<'_> {
         least <= self.agreeing(f)
     }
 
-    // The polynomial through the first t + 1 members among these at which e is not 0 is in the buffer, and enough members of the set agree with it.
-    // Inlined, since a call would make the stack of decoding larger.
+    // The polynomial through the first t + 1 members among these at which e is not 0 is in the buffer, and enough members of the set agree with it: a bool says
+    // so, since the coefficients are in the lent buffer and no memory is allocated. Inlined, since a call would make the stack of decoding larger.
     #[inline(always)]
     fn through(&self, among: u32, e: &[u16], coefficients: &mut [u16]) -> bool
         requires { length coefficients.old ≡ suc self.now.t }

@@ -133,7 +133,8 @@ fn read_lines(text: &[u8], scratch: &mut [u16; 158], words: &mut [u16]) -> Resul
     read_numbers(later, &first, scratch, words)
 }
 
-// The lengths of the buffer and of the text, and then the lines, into a buffer of zeros.
+// The lengths of the buffer and of the text, and then the lines, into a buffer of zeros. The buffer is a slice and no array, since a caller from C may give
+// any length, which refusal 25 is for.
 fn read_text(text: &[u8], scratch: &mut [u16; 158], words: &mut [u16]) -> Result<HandIn, Refusal>
     ensures { answer_of result (cleared result words.new) ≡ read text.now (length words.old) }
 {

@@ -23,7 +23,8 @@ pub fn tag_with_first(alpha: u16, beta: u16, first: u16, rest: &[u16]) -> u16
     field::add_products(beta, &[alpha, square], &[first, value])
 }
 
-// Under 32 keys at once, the tags of a first word and the rest, which need not stand together: the first has power 1, and the rest begin at power 2.
+// Under 32 keys at once, the tags of a first word and the rest, which need not stand together: the first has power 1, and the rest begin at power 2. The keys
+// are two arrays, α and β apart, since lanes need each in one piece.
 #[tactic(auto, using(crate::proofs::Tags::under_all_keys))]
 pub fn tags_with_first(
     alphas: &[u16; 32],

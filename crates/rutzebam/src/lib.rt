@@ -1,5 +1,6 @@
 // The calls that the crate rutzebam_c exports to programs in C and Rust. Each has the contract of the call it makes: the number
-// that is returned is that of the rules, 0 when it is done, and masks, numbers and counts are stored in lent places.
+// that is returned is that of the rules, 0 when it is done, and masks, numbers and counts are stored in lent places. Numbers, lent
+// places and a function of its own for each call are what the C interface needs.
 #![tactic(auto)]
 
 ghost use Rattle.std.specs.Prelude.{◌≡◌, length};
