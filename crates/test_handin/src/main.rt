@@ -5,6 +5,7 @@
 ghost use Rattle.std.specs.Prelude.{◌<◌};
 
 use handin::HandIn;
+use refusals::number_of;
 use std::io;
 use std::io::Read;
 
@@ -38,10 +39,8 @@ fn reads(rt: &impl Print, text: &[u8], words: &mut [u16]) -> io::Result<()> {
         day: 0,
         present: 0,
     };
-    match handin::read(text, words) {
-        Ok(met) => show(rt, 0, met, words),
-        Err(refusal) => show(rt, u16::from(refusal), nothing, words),
-    }
+    let outcome = handin::read(text, words);
+    show(rt, number_of(outcome), outcome.unwrap_or(nothing), words)
 }
 
 // The text on standard input: 31 shares of 157 five-digit words.
@@ -203,10 +202,8 @@ fn writes(
     shares: &[u16],
     text: &mut [u8],
 ) -> io::Result<()> {
-    match handin::write(t, d, quorum, day, present, shares, text) {
-        Ok(count) => show_text(rt, 0, count, text),
-        Err(refusal) => show_text(rt, u16::from(refusal), 0, text),
-    }
+    let outcome = handin::write(t, d, quorum, day, present, shares, text);
+    show_text(rt, number_of(outcome), outcome.unwrap_or(0), text)
 }
 
 // A text for t = 1, d = 1 and day 1, into 120 bytes.
