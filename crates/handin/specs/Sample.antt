@@ -1,7 +1,6 @@
 -- Document 01's sample text, for day 1, and the same dealt with all keys 0.
 -- Assumes nothing.
 use Rattle.std.specs.Prelude.{ℕ, List, ◌++◌}
-use Prim.Native.String.{String}
 use Rattle.lists.specs.Ascii.{ascii}
 
 -- its first line, and the lines of members 1, 2 and 3

@@ -9,9 +9,8 @@ use borrow.Author.Tests.{ltb-true, leb-true, le-leb}
 use lib.Dec.{leb, ltb}
 use Rattle.lists.specs.Checks.{Check, ◌unless◌, checked, within}
 use Rattle.lists.specs.Tabulate.{each}
-use Rattle.lists.proofs.Blocks.{each_every}
 use Rattle.lists.proofs.Bools.{and_intro, and_left, and_right}
-use Rattle.lists.proofs.Every.{Every, none, more, every_map}
+use Rattle.lists.proofs.Every.{Every, none, more}
 
 module _ {A : Type 0} (refuse : ℕ → A) (number : ℕ) (passes : Bool) (later : List Check) (answer : A) where
   -- the first check fails
@@ -55,14 +54,6 @@ module _ {A : Type 0} (refuse : ℕ → A) (number : A → ℕ) (tells : (k : �
   pub all-passed : (cs : List Check) → each (λ c. ltb 0 c.number) cs ≡ true → (answer : A) → number (checked refuse cs answer) ≡ 0
       → checked refuse cs answer ≡ answer
   all-passed cs above answer h = every_passed (all_pass cs above answer h) answer
-
-  -- every refusal's number fits, so the answer's does
-  pub number_fits : (cs : List Check) → each (λ c. leb c.number 65535) cs ≡ true → (answer : A) → number answer ≤ 65535
-      → number (checked refuse cs answer) ≤ 65535
-  number_fits cs below answer h =
-      checked_holds refuse (λ a. number a ≤ 65535) cs
-      (every_map (λ c e. let f : c.number ≤ 65535 = leb-true c.number 65535 e in omega (arith, f, tells c.number)) (each_every (λ c. leb c.number 65535) cs below))
-      answer h
 
 -- ---- low ≤ x ≤ high
 

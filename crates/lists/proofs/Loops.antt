@@ -1,12 +1,10 @@
 -- Loops that go over a list and write each place: by the place i, the first i places are f 0, .., f (i − 1), and the others are as they were.
 -- Assumes nothing.
-use Rattle.std.proofs.Common.{◌≡◌, ◌↔◌, ℕ, zero, suc, Bool, true, false, ◌&&◌, ◌≤◌, IsTrue, All, ◌+◌, ◌<◌, List, [], ◌∷◌, ◌++◌, length, take, drop, refl, sym, ap, ◌∙◌, arith}
+use Rattle.std.proofs.Common.{◌≡◌, ℕ, zero, suc, Bool, true, false, ◌&&◌, ◌≤◌, ◌+◌, ◌<◌, List, [], ◌∷◌, ◌++◌, length, take, drop, refl, sym, ap, ◌∙◌, arith}
 use native.Mathlib.Nat.{le_of_suc-le-suc}
-use Prim.Native.Nat.{suc-le-suc}
 use Rattle.std.proofs.Math.ListN.{set, get_or}
 use Rattle.std.proofs.lemmas.List.{take_all, drop-set-lt, get_or-drop}
 use Rattle.std.proofs.lemmas.Grind.{take-set_at, drop_more_same}
-use Rattle.lists.proofs.Bools.{and_intro, and_left, and_right, same_test}
 use Rattle.lists.specs.Tabulate.{tab, each}
 use Rattle.lists.proofs.Blocks.{tab_more}
 
@@ -45,20 +43,6 @@ pub ruleset writes = (tab_none, written_next, written_last)
 
 -- for a loop that writes at each place i what it works out from the word that stood there
 pub ruleset rewrites = (tab_none, written_next, written_last, read_kept, kept_next)
-
--- a test that passes exactly if every element does, as the library says of `all`
-pub each_from_all : {A : Type 0} (p : A → Bool) (xs : List A) (r : Bool) → (IsTrue r ↔ All (λ x. IsTrue (p x)) xs) → r ≡ each p xs
-unfolding each
-each_from_all {A = A} p xs r h = same_test r (each p xs) (λ e. intro xs (h.0 e)) (λ e. h.1 (at xs e))
-  where
-    intro : (l : List A) → All (λ x. IsTrue (p x)) l → each p l ≡ true
-    intro [] t = refl
-    intro (x ∷ l) t = and_intro (t 0 x (omega arith)) (intro l (λ k d b. t (suc k) d (suc-le-suc b)))
-
-    at : (l : List A) → each p l ≡ true → All (λ x. IsTrue (p x)) l
-    at [] e k d b = absurd (omega arith)
-    at (x ∷ l) e zero d b = and_left (p x) (each p l) e
-    at (x ∷ l) e (suc k) d b = at l (and_right (p x) (each p l) e) k d (le_of_suc-le-suc b)
 
 -- a loop that asks each element for a test, and keeps whether all have passed
 module _ {A : Type 0} (p : A → Bool) where

@@ -19,9 +19,7 @@ use Rattle.shares.specs.Layout.{share_word}
 use Rattle.shares.specs.declared.Shape.{Shape}
 use Rattle.shares.specs.declared.Shares.{Shares}
 use Rattle.shares.proofs.Shapes.{station}
-use Rattle.voting.specs.Votes.{usable, accepts, vote_rows, pairs}
-use Rattle.voting.specs.declared.Pairs.{Pairs}
-use Rattle.voting.specs.Answer.{pairs_of}
+use Rattle.voting.specs.Votes.{usable, accepts, vote_rows}
 use Rattle.voting.proofs.Meaning.{usable-lt, usable_words, row_is}
 use Rattle.voting.proofs.Rows.{empty_row}
 use Rattle.std.specs.Prelude.{Result, Ok, Err}
@@ -31,8 +29,8 @@ use Rattle.pruning.specs.Answer.{answer_of}
 use Rattle.pruning.specs.Pruning.{Pruned, survivors, prune}
 use Rattle.pruning.proofs.Answers.{accepts as accepted}
 use Rattle.pruning.proofs.Largest.{survivors_largest, survivors_size, survivor_voted}
-use Rattle.reconstruction.specs.Reconstruction.{Opened, unopened, required, finish, Answered}
-use Rattle.reconstruction.specs.Internal.Steps.{Voted, Decodable, by_words, by_votes, by_shares}
+use Rattle.reconstruction.specs.Reconstruction.{Opened, unopened, required, finish}
+use Rattle.reconstruction.specs.Internal.Steps.{Voted, Decodable, by_words, by_votes}
 use Rattle.reconstruction.proofs.Opening.{finish_opens, finish_none}
 
 -- pruning takes the rows, and answers their survivors
@@ -113,17 +111,3 @@ module _ (shares : Shares) (able : ℕ) (rows : List ℕ) (voted : Voted shares.
           e
           ∙ ap (by_words s words) ev
           ∙ sym (finish_opens (own_points t) t s.d quorum able rows (share_word t s.d words) met (λ z. some_left (ev ∙ z)))
-
--- the votes of shares, with the usable members that the code has found
-pub by_votes_lem : (s : Shape) (words : List ℕ) (quorum day present able : ℕ) → able ≡ usable s.t s.d present words
-    → (rows : List ℕ) → rows ≡ vote_rows s.t s.d day able words → (p : Pairs) → pairs_of p ≡ pairs s.t s.d day able words
-    → (opened : Opened) → opened ≡ by_votes s quorum able rows words
-    → (let a : Answered = record { opened = opened; pairs = pairs_of p } in a) ≡ by_shares s day present quorum words
-by_votes_lem s words quorum day present able ea rows er p ep opened e i =
-    record {
-      opened =
-          (e
-          ∙ ap (λ (r : List ℕ). by_votes s quorum able r words) er
-          ∙ ap (λ (a : ℕ). by_votes s quorum a (vote_rows s.t s.d day a words) words) ea) i;
-      pairs = (ep ∙ ap (λ (a : ℕ). pairs s.t s.d day a words) ea) i;
-    }

@@ -1,6 +1,6 @@
 -- Laws of a station's shape.
 -- Assumes nothing.
-use mathlib.Core.Path.{◌≡◌, refl, sym, subst}
+use mathlib.Core.Path.{◌≡◌, sym, subst}
 use mathlib.Core.Bool.{true}
 use Prim.Native.Nat.{ℕ, ◌+◌, ◌*◌, ◌≤◌, ◌<◌}
 use native.Mathlib.Omega.{arith}
@@ -30,22 +30,6 @@ station s =
       few = omega (arith, s.members, s.t_high);
       narrow = omega (arith, s.share, s.t_high, s.d_high);
       all_fit = subst (λ (n : ℕ). n * s.width ≤ 4867) (sym s.members) (subst (λ (w : ℕ). size s.t * w ≤ 4867) (sym s.share) (all_fit s.t s.d s.t_high s.d_high));
-    }
-
--- the shape for t and d in range
-pub shape : (t d : ℕ) → InRange t d → Shape
-shape t d r =
-    record {
-      t = t;
-      d = d;
-      n = size t;
-      width = width t d;
-      t_low = r.t_low;
-      t_high = r.t_high;
-      d_low = r.d_low;
-      d_high = r.d_high;
-      members = refl;
-      share = refl;
     }
 
 -- one of the shares is among all of them

@@ -9,12 +9,8 @@ use Rattle.members.specs.Members.{size}
 use Rattle.shares.specs.Layout.{width, word, share, share_word, share_words, tag_word_at, key_α, key_β}
 use Rattle.shares.specs.declared.Shape.{Shape}
 use Rattle.shares.proofs.Reading.{lent, share_at}
-use Rattle.shares.proofs.Shapes.{share_inside}
 
 module _ (s : Shape) (words : List ℕ) (long : length words ≡ s.n * s.width) (i : ℕ) (h : i < s.n) where
-  pub lent_inside : i * s.width + s.width ≤ length words
-  lent_inside = omega (arith, long, share_inside s i h)
-
   pub share_is : take (i * s.width + s.width - i * s.width) (drop (i * s.width) words) ≡ share s.t s.d words i
   share_is =
       lent (i * s.width) s.width words

@@ -5,7 +5,7 @@ use mathlib.Core.Logic.{inl, inr}
 use mathlib.Core.Bool.{true, false, cond, and-false}
 use mathlib.Core.List.{List, [], ◌∷◌, ◌++◌}
 use Prim.Native.Nat.{ℕ, ◌+◌, ◌*◌, ◌-◌, ◌^◌, ◌≤◌, ◌<◌}
-use native.Mathlib.Nat.{pow-suc, pow-le-pow_right}
+use native.Mathlib.Nat.{pow-suc}
 use native.Mathlib.Numerals.{add-one}
 use native.Mathlib.Omega.{arith}
 use borrow.Author.Tests.{eq-eqb, ne_eqb, le-leb, lt-leb, lt-ltb, ltb-true}
@@ -85,8 +85,6 @@ module _ {field : List ℕ} {i v : ℕ} (s : Valued field i v) where
       }
 
   -- at most 5 digits
-  pub valued_small : i ≤ 5 → v < 100000
-  valued_small h = let five : 10 ^ i ≤ 10 ^ 5 = pow-le-pow_right (omega arith) h in omega (arith, s.below, five)
 
   pub valued_last : length field ≤ i → 1 ≤ length field → length field ≤ 5 → (1 < length field → get_or field 0 0 ≡ 48 → ⊥)
       → cond (leb v 65535) (Some v) None ≡ numeral_of field

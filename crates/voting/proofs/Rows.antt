@@ -1,8 +1,7 @@
 -- One vote as the code tests it, one row of votes, and all rows, with how many votes there are of each kind.
 -- Assumes nothing.
 use mathlib.Core.Path.{◌≡◌, refl, sym, ap, ap₂, ◌∙◌}
-use mathlib.Core.Bool.{Bool, true, false, ◌&&◌, not, cond}
-use mathlib.Core.Logic.{inl, inr}
+use mathlib.Core.Bool.{Bool, true, false, ◌&&◌, cond}
 use mathlib.Core.List.{List, [], ◌∷◌}
 use Prim.Native.Nat.{ℕ, ◌+◌, ◌*◌, ◌≤◌, ◌<◌}
 use native.Mathlib.Nat.{mul-le-mul}
@@ -11,10 +10,9 @@ use native.Mathlib.Omega.{arith}
 use lib.Dec.{eqb}
 use lib.ListN.{length, get_or, take}
 use lib.Seq.{get_or-take}
-use borrow.Author.Tests.{eq-eqb, ne_eqb}
 use Rattle.lists.specs.Tabulate.{tab, each, keep, concat}
 use Rattle.lists.proofs.Blocks.{tab_more, concat_more, length-concat}
-use Rattle.lists.proofs.Bools.{test, fails, passes, and_no}
+use Rattle.lists.proofs.Bools.{and_no}
 use Rattle.lists.proofs.Loops.{written_last}
 use Rattle.lists.proofs.Tabulate.{length-tab, get_or-tab, each-tab}
 use Rattle.field.specs.Field.{is_field_word}

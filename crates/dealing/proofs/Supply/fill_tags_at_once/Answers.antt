@@ -1,6 +1,6 @@
 -- `dealing::Supply::fill_tags_at_once`: under the keys that it gathers, the first n tags are the member's.
 -- Assumes nothing.
-use Rattle.std.proofs.Common.{◌∙◌, arith, rules}
+use Rattle.std.proofs.Common.{◌∙◌, rules}
 use Rattle.dealing.specs.Dealing.{dealt_α, dealt_β}
 use Rattle.dealing.proofs.Filling.{tags_made}
 use Rattle.dealing.proofs.Supply.fill_tags_at_once.Goals as goal
