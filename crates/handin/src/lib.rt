@@ -36,17 +36,12 @@ fn take_share(s: Shape, present: u32, numbers: &[u16], words: &mut [u16]) -> Res
 }
 
 // One line: its shape whole, and then its member.
-fn take_line(
-    line: &[u8],
-    s: Shape,
-    present: u32,
-    scratch: &mut [u16; 158],
-    words: &mut [u16],
-) -> Result<u32, Refusal>
+fn take_line(line: &[u8], s: Shape, present: u32, words: &mut [u16]) -> Result<u32, Refusal>
     requires { length words.old ≡ capacity }
     ensures { (taken : List Share) → Holds s.t s.d taken present words.old → Comes s.t s.d (take_line s.t s.d taken line.now) result words.new }
 {
-    let numbers = &mut scratch[..1 + s.width];
+    let mut room = [0u16; 158];
+    let numbers = &mut room[..1 + s.width];
     if !text::numbers(line, b'P', numbers) {
         return Err(Refusal::BadLine);
     }
@@ -54,12 +49,7 @@ fn take_line(
 }
 
 // The P lines one after the other: the present mask. The buffer is all zeros at first, and is cleared by the caller on a refusal.
-fn take_lines(
-    text: &[u8],
-    s: Shape,
-    scratch: &mut [u16; 158],
-    words: &mut [u16],
-) -> Result<u32, Refusal>
+fn take_lines(text: &[u8], s: Shape, words: &mut [u16]) -> Result<u32, Refusal>
     requires { (length words.old ≡ capacity) × (words.old ≡ replicate (length words.old) 0) }
     ensures { Comes s.t s.d (take_lines s.t s.d [] (parts 10 text.now)) result words.new }
 {
@@ -69,7 +59,7 @@ fn take_lines(
         let Some((line, later)) = text::split_once(rest, 10) else {
             return Err(Refusal::BadLine);
         };
-        present = take_line(line, s, present, scratch, words)?;
+        present = take_line(line, s, present, words)?;
         rest = later;
     }
     Ok(present)
@@ -86,12 +76,7 @@ pub struct HandIn {
 }
 
 // The numbers of a D line, and the P lines after it.
-fn read_numbers(
-    text: &[u8],
-    first: &[u16; 4],
-    scratch: &mut [u16; 158],
-    words: &mut [u16],
-) -> Result<HandIn, Refusal>
+fn read_numbers(text: &[u8], first: &[u16; 4], words: &mut [u16]) -> Result<HandIn, Refusal>
     requires { (length words.old ≡ capacity) × (words.old ≡ replicate (length words.old) 0) }
     ensures { answer_of result (cleared result words.new) ≡ read_numbers (length words.old) (some first.now) (parts 10 text.now) }
 {
@@ -108,7 +93,7 @@ fn read_numbers(
     if !shares::is_day(day) {
         return Err(Refusal::BadFirstLine);
     }
-    let present = take_lines(text, Shape::new(t, d), scratch, words)?;
+    let present = take_lines(text, Shape::new(t, d), words)?;
     Ok(HandIn {
         t,
         d,
@@ -119,7 +104,7 @@ fn read_numbers(
 }
 
 // A text's first line, which a byte 10 ends, and the lines after it.
-fn read_lines(text: &[u8], scratch: &mut [u16; 158], words: &mut [u16]) -> Result<HandIn, Refusal>
+fn read_lines(text: &[u8], words: &mut [u16]) -> Result<HandIn, Refusal>
     requires { (length words.old ≡ capacity) × (words.old ≡ replicate (length words.old) 0) }
     ensures { answer_of result (cleared result words.new) ≡ read_lines (length words.old) (parts 10 text.now) }
 {
@@ -130,12 +115,12 @@ fn read_lines(text: &[u8], scratch: &mut [u16; 158], words: &mut [u16]) -> Resul
     if !text::numbers(line, b'D', &mut first) {
         return Err(Refusal::BadFirstLine);
     }
-    read_numbers(later, &first, scratch, words)
+    read_numbers(later, &first, words)
 }
 
 // The lengths of the buffer and of the text, and then the lines, into a buffer of zeros. The buffer is a slice and no array, since a caller from C may give
 // any length, which refusal 25 is for.
-fn read_text(text: &[u8], scratch: &mut [u16; 158], words: &mut [u16]) -> Result<HandIn, Refusal>
+fn read_text(text: &[u8], words: &mut [u16]) -> Result<HandIn, Refusal>
     ensures { answer_of result (cleared result words.new) ≡ read text.now (length words.old) }
 {
     if words.len() != 4867 {
@@ -145,15 +130,14 @@ fn read_text(text: &[u8], scratch: &mut [u16; 158], words: &mut [u16]) -> Result
         return Err(Refusal::TextTooLong);
     }
     words.fill(0);
-    read_lines(text, scratch, words)
+    read_lines(text, words)
 }
 
 // Reads hand-in text into a buffer of 4867 words: the shares in member order, zeros for absent members and after the last share; and zeros after a refusal.
 pub fn read(text: &[u8], words: &mut [u16]) -> Result<HandIn, Refusal>
     ensures { answer_of result words.new ≡ read text.now (length words.old) }
 {
-    let mut scratch = [0u16; 158];
-    let answer = read_text(text, &mut scratch, words);
+    let answer = read_text(text, words);
     if answer.is_err() {
         words.fill(0);
     }

@@ -65,13 +65,6 @@ fn raise(row: &mut [u16])
     }
 }
 
-// The whole product of two words.
-fn product_of(a: u16, b: u16) -> u32
-    ensures { (result ≡ a * b) × (result ≤ 4294836225) }
-{
-    u32::from(a) * u32::from(b)
-}
-
 // A sum of products for each of 64 places. The products' low and high halves are summed apart, in two arrays, so that the compiler works on several places at once.
 #[derive(Drop)]
 struct Halves {
@@ -96,7 +89,7 @@ impl Halves {
         ensures { Added weight words.now self.old.low self.old.high (length words.now) self.new.low self.new.high }
     {
         for (k, word) in words.iter().enumerate() {
-            let product = product_of(weight, *word);
+            let product = weight as u32 * *word as u32;
             self.low[k] += product % 65536;
             self.high[k] += product / 65536;
         }

@@ -6,11 +6,17 @@ use Rattle.text.specs.Lines.{line_of}
 use Rattle.handin.proofs.Taking.{take_none, take_some, narrow}
 use Rattle.handin.proofs.take_line.Goals as goal
 
-pub overflow_add-numbers : goal.overflow_add-numbers
-overflow_add-numbers c = omega (arith, (station c.args.s).narrow)
+pub overflow_add-room : goal.overflow_add-room
+overflow_add-room c = omega (arith, (station c.args.s).narrow)
+
+pub slice_bounds-room-end : goal.slice_bounds-room-end
+slice_bounds-room-end c = omega (arith, (station c.args.s).narrow)
 
 pub slice_bounds-numbers-end : goal.slice_bounds-numbers-end
-slice_bounds-numbers-end c = omega (arith, (station c.args.s).narrow)
+slice_bounds-numbers-end c = sym (narrow c.args.s _ cc)
+
+pub take_share-requires : goal.take_share-requires
+take_share-requires c = (c.numbers.auto.out ∙ narrow c.args.s _ cc, c.requires)
 
 pub returns-then-not-numbers : goal.returns-then-not-numbers
 returns-then-not-numbers c =
