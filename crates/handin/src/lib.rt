@@ -18,8 +18,13 @@ use shares::{Shape, Shares};
 use text::Output;
 
 // A line of the right shape: the member is judged, and only then is its share's place worked out.
-fn take_share(s: Shape, present: u32, numbers: &[u16], words: &mut [u16]) -> Result<u32, Refusal>
-    requires { (length numbers.now ≡ 1 + s.width) × (length words.old ≡ capacity) }
+fn take_share(
+    s: Shape,
+    present: u32,
+    numbers: &[u16],
+    words: &mut [u16; 4867],
+) -> Result<u32, Refusal>
+    requires { length numbers.now ≡ 1 + s.width }
     ensures { (taken : List Share) → Holds s.t s.d taken present words.old → Comes s.t s.d (take_numbers s.t taken (some numbers.now)) result words.new }
 {
     let member = numbers[0] as usize;
@@ -36,8 +41,7 @@ fn take_share(s: Shape, present: u32, numbers: &[u16], words: &mut [u16]) -> Res
 }
 
 // One line: its shape whole, and then its member.
-fn take_line(line: &[u8], s: Shape, present: u32, words: &mut [u16]) -> Result<u32, Refusal>
-    requires { length words.old ≡ capacity }
+fn take_line(line: &[u8], s: Shape, present: u32, words: &mut [u16; 4867]) -> Result<u32, Refusal>
     ensures { (taken : List Share) → Holds s.t s.d taken present words.old → Comes s.t s.d (take_line s.t s.d taken line.now) result words.new }
 {
     let mut room = [0u16; 158];
@@ -48,11 +52,11 @@ fn take_line(line: &[u8], s: Shape, present: u32, words: &mut [u16]) -> Result<u
     take_share(s, present, numbers, words)
 }
 
-// The P lines one after the other: the present mask. The buffer is all zeros at first, and is cleared by the caller on a refusal.
-fn take_lines(text: &[u8], s: Shape, words: &mut [u16]) -> Result<u32, Refusal>
-    requires { (length words.old ≡ capacity) × (words.old ≡ replicate (length words.old) 0) }
+// The P lines one after the other, into a buffer that is all zeros at first: the present mask. On a refusal the caller clears the buffer.
+fn take_lines(text: &[u8], s: Shape, words: &mut [u16; 4867]) -> Result<u32, Refusal>
     ensures { Comes s.t s.d (take_lines s.t s.d [] (parts 10 text.now)) result words.new }
 {
+    words.fill(0);
     let mut present = 0;
     let mut rest = text;
     while !rest.is_empty() {
@@ -76,8 +80,7 @@ pub struct HandIn {
 }
 
 // The numbers of a D line, and the P lines after it.
-fn read_numbers(text: &[u8], first: &[u16; 4], words: &mut [u16]) -> Result<HandIn, Refusal>
-    requires { (length words.old ≡ capacity) × (words.old ≡ replicate (length words.old) 0) }
+fn read_numbers(text: &[u8], first: &[u16; 4], words: &mut [u16; 4867]) -> Result<HandIn, Refusal>
     ensures { answer_of result (cleared result words.new) ≡ read_numbers (length words.old) (some first.now) (parts 10 text.now) }
 {
     let t = first[0] as usize;
@@ -104,8 +107,7 @@ fn read_numbers(text: &[u8], first: &[u16; 4], words: &mut [u16]) -> Result<Hand
 }
 
 // A text's first line, which a byte 10 ends, and the lines after it.
-fn read_lines(text: &[u8], words: &mut [u16]) -> Result<HandIn, Refusal>
-    requires { (length words.old ≡ capacity) × (words.old ≡ replicate (length words.old) 0) }
+fn read_lines(text: &[u8], words: &mut [u16; 4867]) -> Result<HandIn, Refusal>
     ensures { answer_of result (cleared result words.new) ≡ read_lines (length words.old) (parts 10 text.now) }
 {
     let Some((line, later)) = text::split_once(text, 10) else {
@@ -118,18 +120,16 @@ fn read_lines(text: &[u8], words: &mut [u16]) -> Result<HandIn, Refusal>
     read_numbers(later, &first, words)
 }
 
-// The lengths of the buffer and of the text, and then the lines, into a buffer of zeros. The buffer is a slice and no array, since a caller from C may give
-// any length, which refusal 25 is for.
+// The lengths of the buffer and of the text, and then the lines.
 fn read_text(text: &[u8], words: &mut [u16]) -> Result<HandIn, Refusal>
     ensures { answer_of result (cleared result words.new) ≡ read text.now (length words.old) }
 {
-    if words.len() != 4867 {
+    let Some(words) = words.as_mut_array::<4867>() else {
         return Err(Refusal::BadBufferLength);
-    }
+    };
     if 40000 < text.len() {
         return Err(Refusal::TextTooLong);
     }
-    words.fill(0);
     read_lines(text, words)
 }
 

@@ -1,6 +1,6 @@
 -- With t, d and the day in range the P lines are taken in the shape for t and d, and their answer is the text's.
 -- Assumes nothing.
-use Rattle.std.proofs.Common.{refl, sym}
+use Rattle.std.proofs.Common.{refl, sym, rules}
 use Rattle.std.proofs.lemmas.Result.{err_from_is_err_and}
 use Rattle.shares.proofs.Shapes.{in_range}
 use Rattle.handin.proofs.Reading.{first_t, first_d, first_day, lines_refused, lines_taken}
@@ -24,10 +24,10 @@ pub returns-in_err-present : goal.returns-in_err-present
 returns-in_err-present c =
     let p = err_from_is_err_and c.from_residual.result c.from_residual.ensures.1 in
     rw (p.1, p.2)
-    (lines_refused _ _ _ _ c.take_lines.auto.words (sym c.if-not-threshold.ensures) (sym c.if-not-within.ensures) (sym c.if-not-is_day.ensures) c.new.result c.new.ensures _
+    (lines_refused _ _ _ _ (search rules) (sym c.if-not-threshold.ensures) (sym c.if-not-within.ensures) (sym c.if-not-is_day.ensures) c.new.result c.new.ensures _
     c.in_err-present.ensures)
 
 pub returns : goal.returns
 returns c =
-    lines_taken _ _ _ _ c.take_lines.auto.words (sym c.if-not-threshold.ensures) (sym c.if-not-within.ensures) (sym c.if-not-is_day.ensures) c.new.result c.new.ensures _
+    lines_taken _ _ _ _ (search rules) (sym c.if-not-threshold.ensures) (sym c.if-not-within.ensures) (sym c.if-not-is_day.ensures) c.new.result c.new.ensures _
     c.in_ok-present.ensures _ refl

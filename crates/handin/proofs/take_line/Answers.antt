@@ -16,7 +16,7 @@ pub slice_bounds-numbers-end : goal.slice_bounds-numbers-end
 slice_bounds-numbers-end c = sym (narrow c.args.s _ cc)
 
 pub take_share-requires : goal.take_share-requires
-take_share-requires c = (c.numbers.auto.out ∙ narrow c.args.s _ cc, c.requires)
+take_share-requires c = c.numbers.auto.out ∙ narrow c.args.s _ cc
 
 pub returns-then-not-numbers : goal.returns-then-not-numbers
 returns-then-not-numbers c =

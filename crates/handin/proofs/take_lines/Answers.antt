@@ -1,13 +1,13 @@
 -- A line that is refused ends the reading; at the end the shares taken are the answer.
 -- Assumes nothing.
-use Rattle.std.proofs.Common.{◌≡◌, ◌<◌, length, arith}
+use Rattle.std.proofs.Common.{◌≡◌, ◌<◌, length, arith, rules}
 use Rattle.std.proofs.lemmas.Bool.Decides.{nat_tests}
 use Rattle.std.proofs.lemmas.Result.{err_from_is_err_and}
 use Rattle.handin.proofs.Reaching.{reached_start, reached_end, reached_unended, reached_refused, reached_next}
 use Rattle.handin.proofs.take_lines.Goals as goal
 
 pub loop-rest-init : goal.loop-rest-init
-loop-rest-init c = reached_start c.args.s _ _ c.requires.0 c.requires.1
+loop-rest-init c = reached_start c.args.s _ _ (search rules) (search rules)
 
 pub returns-in_default : goal.returns-in_default
 returns-in_default c =

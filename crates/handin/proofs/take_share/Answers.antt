@@ -1,6 +1,6 @@
 -- The member is judged, and then its share goes to its place, where the buffer of the shares taken has it.
 -- Assumes nothing.
-use Rattle.std.proofs.Common.{get_or, sym, arith}
+use Rattle.std.proofs.Common.{get_or, sym, arith, rules}
 use Rattle.lists.proofs.Stores.{part_all}
 use Rattle.handin.proofs.Taking.{share_room, take_out, take_met, take_in}
 use Rattle.handin.proofs.take_share.Goals as goal
@@ -25,5 +25,5 @@ returns-then-has c = take_met c.args.s _ _ _ _ (sym c.if-not-within.ensures) (sy
 
 pub returns : goal.returns
 returns c =
-    take_in c.args.s _ _ _ _ (sym c.if-not-within.ensures) _ (sym c.if-has.ensures) c.requires.0 c.requires.1
+    take_in c.args.s _ _ _ _ (sym c.if-not-within.ensures) _ (sym c.if-has.ensures) c.requires (search rules)
     (rw (c.copy_from_slice.ensures.after, part_all 1 c.args.numbers.now)) c.with.ensures
