@@ -70,7 +70,7 @@ fn take_lines(text: &[u8], s: Shape, words: &mut [u16; 4867]) -> Result<u32, Ref
 }
 
 // What a text gives beside the shares: t, d, the quorum, the day, and the present mask.
-#[derive(Clone, Copy)]
+#[derive(Clone, Copy, Default)]
 pub struct HandIn {
     pub t: usize,
     pub d: usize,

@@ -89,24 +89,14 @@ pub fn rutzebam_read(
 ) -> u16
     ensures { hand_in result t.new d.new quorum.new day.new present.new words.new ≡ read text.now (length words.old) }
 {
-    match handin::read(text, words) {
-        Ok(met) => {
-            *t = met.t;
-            *d = met.d;
-            *quorum = met.quorum;
-            *day = met.day;
-            *present = met.present;
-            0
-        }
-        Err(refusal) => {
-            *t = 0;
-            *d = 0;
-            *quorum = 0;
-            *day = 0;
-            *present = 0;
-            u16::from(refusal)
-        }
-    }
+    let outcome = handin::read(text, words);
+    let met = outcome.unwrap_or_default();
+    *t = met.t;
+    *d = met.d;
+    *quorum = met.quorum;
+    *day = met.day;
+    *present = met.present;
+    number_of(outcome)
 }
 
 // The writer of hand-in text.

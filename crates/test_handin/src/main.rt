@@ -32,15 +32,8 @@ fn show(rt: &impl Print, number: u16, met: HandIn, words: &[u16]) -> io::Result<
 }
 
 fn reads(rt: &impl Print, text: &[u8], words: &mut [u16]) -> io::Result<()> {
-    let nothing = HandIn {
-        t: 0,
-        d: 0,
-        quorum: 0,
-        day: 0,
-        present: 0,
-    };
     let outcome = handin::read(text, words);
-    show(rt, number_of(outcome), outcome.unwrap_or(nothing), words)
+    show(rt, number_of(outcome), outcome.unwrap_or_default(), words)
 }
 
 // The text on standard input: 31 shares of 157 five-digit words.
