@@ -1,6 +1,6 @@
 -- Laws of a station's shape.
 -- Assumes nothing.
-use mathlib.Core.Path.{◌≡◌, sym, subst}
+use mathlib.Core.Path.{◌≡◌}
 use mathlib.Core.Bool.{true}
 use Prim.Native.Nat.{ℕ, ◌+◌, ◌*◌, ◌≤◌, ◌<◌}
 use native.Mathlib.Omega.{arith}
@@ -9,7 +9,7 @@ use Rattle.members.specs.Members.{is_threshold, size}
 use Rattle.shares.specs.Layout.{is_length, width}
 use Rattle.shares.specs.Internal.Shape.{InRange, Station}
 use Rattle.shares.specs.declared.Shape.{Shape}
-use Rattle.shares.proofs.Places.{row_inside, all_fit}
+use Rattle.shares.proofs.Places.{row_inside}
 
 -- what the checks of t and d show
 pub in_range : (t d : ℕ) → is_threshold t ≡ true → is_length d ≡ true → InRange t d
@@ -27,9 +27,9 @@ station s =
       members = s.members;
       share = s.share;
       parts = omega (arith, s.members, s.share);
-      few = omega (arith, s.members, s.t_high);
-      narrow = omega (arith, s.share, s.t_high, s.d_high);
-      all_fit = subst (λ (n : ℕ). n * s.width ≤ 4867) (sym s.members) (subst (λ (w : ℕ). size s.t * w ≤ 4867) (sym s.share) (all_fit s.t s.d s.t_high s.d_high));
+      few = s.few;
+      narrow = s.narrow;
+      all_fit = s.fit;
     }
 
 -- one of the shares is among all of them

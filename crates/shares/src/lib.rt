@@ -26,6 +26,10 @@ pub struct Shape {
     pub ghost d_high: { d ≤ 64 },
     pub ghost members: { n ≡ size t },
     pub ghost share: { width ≡ width_of t d },
+    // these three follow; they stand here so that each check of a bound finds them
+    pub ghost few: { n ≤ 31 },
+    pub ghost narrow: { width ≤ 157 },
+    pub ghost fit: { n * width ≤ 4867 },
 }
 
 impl Shape {
