@@ -4,6 +4,7 @@ pub mod Placing
 pub mod ReadBack
 pub mod Reaching
 pub mod Reading
+pub mod Refusing
 pub mod Sound
 pub mod Taking
 pub mod TextLength

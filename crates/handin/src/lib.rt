@@ -1,7 +1,7 @@
 // The reader of hand-in text, its lines one after the other into a buffer of shares; and its writer.
 #![tactic(auto)]
 
-ghost use Rattle.std.specs.Prelude.{◌≡◌, cond, List, [], ◌+◌, ◌≤◌, ◌<◌, length, get_or, replicate, ℕ};
+ghost use Rattle.std.specs.Prelude.{◌≡◌, cond, List, [], ◌∷◌, ◌+◌, ◌≤◌, ◌<◌, length, get_or, replicate, ℕ};
 ghost use Rattle.std.proofs.Math.Option.{some};
 ghost use Rattle.members.specs.Members.{has};
 ghost use Rattle.shares.specs.Layout.{capacity};
@@ -46,9 +46,7 @@ fn take_line(line: &[u8], s: Shape, present: u32, words: &mut [u16; 4867]) -> Re
 {
     let mut room = [0u16; 158];
     let numbers = &mut room[..1 + s.width];
-    if !text::numbers(line, b'P', numbers) {
-        return Err(Refusal::BadLine);
-    }
+    text::numbers(line, b'P', numbers).ok_or(Refusal::BadLine)?;
     take_share(s, present, numbers, words)
 }
 
@@ -60,9 +58,7 @@ fn take_lines(text: &[u8], s: Shape, words: &mut [u16; 4867]) -> Result<u32, Ref
     let mut present = 0;
     let mut rest = text;
     while !rest.is_empty() {
-        let Some((line, later)) = text::split_once(rest, 10) else {
-            return Err(Refusal::BadLine);
-        };
+        let (line, later) = text::split_once(rest, 10).ok_or(Refusal::BadLine)?;
         present = take_line(line, s, present, words)?;
         rest = later;
     }
@@ -79,7 +75,8 @@ pub struct HandIn {
     pub present: u32,
 }
 
-// The numbers of a D line, and the P lines after it.
+// The numbers of a D line, and the P lines after it. The checks of t, d and the day stand here and in `write` again: so each call's own order and numbers are
+// in sight, as its definition lists them.
 fn read_numbers(text: &[u8], first: &[u16; 4], words: &mut [u16; 4867]) -> Result<HandIn, Refusal>
     ensures { answer_of result (cleared result words.new) ≡ read_numbers (length words.old) (some first.now) (parts 10 text.now) }
 {
@@ -110,13 +107,9 @@ fn read_numbers(text: &[u8], first: &[u16; 4], words: &mut [u16; 4867]) -> Resul
 fn read_lines(text: &[u8], words: &mut [u16; 4867]) -> Result<HandIn, Refusal>
     ensures { answer_of result (cleared result words.new) ≡ read_lines (length words.old) (parts 10 text.now) }
 {
-    let Some((line, later)) = text::split_once(text, 10) else {
-        return Err(Refusal::BadFirstLine);
-    };
+    let (line, later) = text::split_once(text, 10).ok_or(Refusal::BadFirstLine)?;
     let mut first = [0u16; 4];
-    if !text::numbers(line, b'D', &mut first) {
-        return Err(Refusal::BadFirstLine);
-    }
+    text::numbers(line, b'D', &mut first).ok_or(Refusal::BadFirstLine)?;
     read_numbers(later, &first, words)
 }
 
@@ -151,20 +144,23 @@ struct Source<'a> {
     quorum: u16,
     day: u16,
     present: u32,
+    // what each u16 is: the check knows it of a slice by itself, and not of one in a struct
     ghost small: { (k : ℕ) → get_or shares.words.now k 0 < 65536 },
 }
 
 impl Source<'_> {
+    // The numbers of the D line after t: d, the quorum and the day.
+    fn first_numbers(&self) -> [u16; 3]
+        ensures { result ≡ self.now.shares.shape.d ∷ self.now.quorum ∷ self.now.day ∷ [] }
+    {
+        [self.shares.shape.d as u16, self.quorum, self.day]
+    }
+
     // How many bytes the D line has.
     fn first_length(&self) -> usize
         ensures { result ≡ length (first_line self.now.shares.shape.t self.now.shares.shape.d self.now.quorum self.now.day) }
     {
-        let shape = self.shares.shape;
-        text::list_length(
-            b"D",
-            shape.t as u16,
-            &[shape.d as u16, self.quorum, self.day],
-        )
+        text::list_length(b"D", self.shares.shape.t as u16, &self.first_numbers())
     }
 
     // The D line.
@@ -173,12 +169,7 @@ impl Source<'_> {
         ensures same_reference { output.new.bytes.ghost_name ≡ output.old.bytes.ghost_name }
         ensures written { Written output.old.bytes.now output.old.end (first_line self.now.shares.shape.t self.now.shares.shape.d self.now.quorum self.now.day) output.new.bytes.now output.new.end }
     {
-        let shape = self.shares.shape;
-        output.put_list(
-            b"D",
-            shape.t as u16,
-            &[shape.d as u16, self.quorum, self.day],
-        );
+        output.put_list(b"D", self.shares.shape.t as u16, &self.first_numbers());
     }
 
     // How many bytes member i's P line has, if it is present.
@@ -234,7 +225,8 @@ impl Source<'_> {
         self.first_length() + self.shares_length()
     }
 
-    // The text, where it fits; its length is known before the first byte is written.
+    // The text, where it fits. Its lines are walked twice, to count and to write: refusal 31 leaves the buffer as it was, so the length must be known before the
+    // first byte is written.
     fn put(&self, text: &mut [u8]) -> Result<usize, Refusal>
         ensures { written_of result text.new ≡ fitted (text_of self.now.shares.shape.t self.now.shares.shape.d self.now.quorum self.now.day self.now.present self.now.shares.words.now) text.old }
     {
@@ -248,7 +240,8 @@ impl Source<'_> {
     }
 }
 
-// Writes hand-in text at the front of a buffer: the D line, then a P line for each present member. The bytes past the text stay.
+// Writes hand-in text at the front of a buffer: the D line, then a P line for each present member. The bytes past the text stay. Its first five parameters are
+// HandIn's fields: the C interface lends them one by one.
 pub fn write(
     t: usize,
     d: usize,

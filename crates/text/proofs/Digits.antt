@@ -1,6 +1,6 @@
 -- Laws of decimal digits as they are printed: the last one apart, and how many there are.
 -- Assumes nothing.
-use mathlib.Core.Path.{◌≡◌, sym, ap, ◌∙◌}
+use mathlib.Core.Path.{◌≡◌, refl, sym, ap, ◌∙◌}
 use mathlib.Core.Logic.{◌⊎◌, inl, inr}
 use mathlib.Core.Bool.{Bool, true, false}
 use mathlib.Core.List.{List, [], ◌∷◌, ◌++◌}
@@ -97,12 +97,9 @@ pub record Left (n at : ℕ) (before output : List ℕ) (i rest : ℕ) : Type 0 
   pub stores : sets output at (digits 10 rest) ≡ sets before at (digits 10 n)
 
 module _ {n at : ℕ} {before output : List ℕ} {i rest : ℕ} (l : Left n at before output i rest) where
-  -- a digit is left, and has room
+  -- a digit is left
   pub left-place : at < i
   left-place = omega (arith, l.place, has_digit rest l.fits)
-
-  pub left_room : at < length output
-  left_room = omega (arith, left-place, l.inside, l.long)
 
   pub left_next : 9 < rest → Left n at before (set output (i - 1) (48 + rest % 10)) (i - 1) (rest / 10)
   left_next h =
@@ -119,5 +116,36 @@ module _ {n at : ℕ} {before output : List ℕ} {i rest : ℕ} (l : Left n at b
             ∙ l.stores;
       }
 
-  pub left_last : rest ≤ 9 → set output at (48 + rest) ≡ sets before at (digits 10 n)
-  left_last h = ap (sets output at) (sym (digits-one rest (suc-le-suc h))) ∙ l.stores
+  -- the first digit, which is the last one to store
+  module _ (h : rest < 10) where
+    pub left_one : i - 1 ≡ at
+    left_one =
+        let one : length (digits 10 rest) ≡ 1 = ap length (digits-one rest h) in
+        omega (arith, l.place, one)
+
+    pub left_last : set output (i - 1) (48 + rest % 10) ≡ sets before at (digits 10 n)
+    left_last =
+        let d : rest % 10 ≡ rest = omega arith in
+        rw (left_one, d) (ap (sets output at) (sym (digits-one rest h)) ∙ l.stores)
+
+-- digits are left to store, or all are stored
+pub data Storing (n at : ℕ) (before output : List ℕ) (i rest : ℕ) : Type 0 where
+  left : Left n at before output i rest → Storing n at before output i rest
+  done : i ≡ at → length output ≡ length before → output ≡ sets before at (digits 10 n) → Storing n at before output i rest
+
+pub storing_first : (n at : ℕ) (before : List ℕ) (i : ℕ) → n < 4294967296 → i ≡ at + length (digits 10 n) → i ≤ length before → Storing n at before before i n
+storing_first n at before i f p h = left (record { fits = f; place = p; inside = h; long = refl; stores = refl })
+
+module _ {n at : ℕ} {before output : List ℕ} {i rest : ℕ} where
+  pub storing_next : Storing n at before output i rest → at < i → Storing n at before (set output (i - 1) (48 + rest % 10)) (i - 1) (rest / 10)
+  storing_next (done e h s) more = absurd (omega (arith, more, e))
+  storing_next (left l) more = elim (test (ltb rest 10)) [
+    | inl e ↦
+        let h : rest < 10 = ltb-true rest 10 e in
+        done (left_one l h) (length-set output (i - 1) (48 + rest % 10) ∙ l.long) (left_last l h)
+    | inr e ↦ left (left_next l (ltb-false rest 10 e))
+  ]
+
+  pub storing_last : Storing n at before output i rest → i ≤ at → output ≡ sets before at (digits 10 n)
+  storing_last (done e h s) none = s
+  storing_last (left l) none = absurd (omega (arith, left-place l, none))

@@ -12,12 +12,10 @@ use borrow.Author.Tests.{eq-eqb, ne_eqb}
 use lib.Dec.{eqb, eqb-zero-suc, eqb-suc-zero, eqb-suc-suc}
 use lib.ListN.{length, get_or, take, set, length-set}
 use lib.Seq.{take_all, take-suc-set}
-use Rattle.std.specs.Prelude.{Option as Maybe, Some, None, is_none}
-use Rattle.std.specs.Option.{option_map}
+use Rattle.std.specs.Prelude.{Some, None}
 use Rattle.lists.proofs.Bools.{test}
 use Rattle.text.specs.Lines.{parts, decimal, is_numeral, numerals, is_letter, numbers_of, line_of}
 use Rattle.text.specs.Internal.Scanning.{numeral_of, fields_left}
-use Rattle.text.proofs.Parts.{parts_some}
 
 -- ---- numbers of fields
 
@@ -172,14 +170,6 @@ left_some r = refl
 pub left_none : fields_left None ≡ []
 unfolding fields_left
 left_none = refl
-
--- at the end no field may be left
-pub fields_done : {A : Type 0} (f : A → List ℕ) (rest : Maybe A) (b : Bool) → b ≡ is_none rest → {all : Option (List ℕ)} {k i : ℕ} {out : List ℕ}
-    → Stored all k i out (fields_left (option_map f rest)) → length out ≤ i → all ≡ cond b (some out) none
-fields_done f None b e s h = rw e (fields_end s h left_none)
-fields_done f (Some r) b e s h =
-    let first : (p : List ℕ) × (ps : List (List ℕ)) × (parts 9 (f r) ≡ p ∷ ps) = parts_some 9 (f r) in
-    rw e (fields_over s h first.0 first.1 (left_some (f r) ∙ first.2))
 
 -- ---- a line by its first field
 

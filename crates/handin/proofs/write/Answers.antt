@@ -1,7 +1,7 @@
 -- Its checks are the definition's in their order, and after them the shape is that of t and d.
 -- Assumes nothing.
-use Rattle.std.proofs.Common.{sym, arith}
-use Rattle.shares.proofs.Shapes.{in_range, station}
+use Rattle.std.proofs.Common.{sym}
+use Rattle.shares.proofs.Shapes.{in_range}
 use Rattle.shares.proofs.Tests.{wrong_length, right_length, beyond_n, within_n}
 use Rattle.handin.proofs.WriterChecks.{wrote_1, wrote_2, wrote_32, wrote_11, wrote_12, goes_on}
 use Rattle.handin.proofs.write.Goals as goal
@@ -14,9 +14,6 @@ returns-then-not-within c = wrote_2 _ _ _ _ _ _ _ (sym c.if-not-threshold.ensure
 
 pub returns-then-not-is_day : goal.returns-then-not-is_day
 returns-then-not-is_day c = wrote_32 _ _ _ _ _ _ _ (sym c.if-not-threshold.ensures) (sym c.if-not-within.ensures) (sym c.if-not-is_day.ensures)
-
-pub overflow_mul-shape : goal.overflow_mul-shape
-overflow_mul-shape c = omega (arith, (station c.new-shape.result).all_fit)
 
 pub returns-then-shares-shape : goal.returns-then-shares-shape
 returns-then-shares-shape c =

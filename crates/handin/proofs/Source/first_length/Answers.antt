@@ -5,4 +5,4 @@ use Rattle.handin.proofs.Source.first_length.Goals as goal
 
 pub returns : goal.returns
 unfolding ascii
-returns c = c.list_length.ensures
+returns c = rw c.first_numbers.ensures at c.list_length.ensures

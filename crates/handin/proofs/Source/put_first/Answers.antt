@@ -9,8 +9,8 @@ pub put_list-requires : goal.put_list-requires
 unfolding ascii
 put_list-requires c =
     let s = c.args.self.now in
-    omega (arith, c.requires, length_from (68 ∷ []) s.shares.shape.t (s.shares.shape.d ∷ s.quorum ∷ s.day ∷ []))
+    rw c.first_numbers.ensures (omega (arith, c.requires, length_from (68 ∷ []) s.shares.shape.t (s.shares.shape.d ∷ s.quorum ∷ s.day ∷ [])))
 
 pub returns-clause-written : goal.returns-clause-written
 unfolding ascii
-returns-clause-written c = c.put_list.ensures.written
+returns-clause-written c = rw c.first_numbers.ensures at c.put_list.ensures.written

@@ -1,15 +1,8 @@
 -- An absent member has no line; a present member's is the letter P, its number and its share.
 -- Assumes nothing.
-use Rattle.std.proofs.Common.{sym, arith}
-use Rattle.shares.proofs.Shapes.{station}
+use Rattle.std.proofs.Common.{sym}
 use Rattle.handin.proofs.Writing.{present_room, present_written}
 use Rattle.handin.proofs.Source.put_share.Goals as goal
-
-pub overflow_add-number : goal.overflow_add-number
-overflow_add-number c = omega (arith, (station c.args.self.now.shares.shape).few)
-
-pub overflow_cast-number : goal.overflow_cast-number
-overflow_cast-number c = omega (arith, (station c.args.self.now.shares.shape).few)
 
 pub put_list-requires : goal.put_list-requires
 put_list-requires c = present_room _ _ _ _ _ _ c.share.ensures.words (sym c.if-has.ensures) _ _ c.requires.line_fits

@@ -1,21 +1,15 @@
--- A digit is left to store and has room, and the next is stored before those stored already; at the end one is left.
+-- While a digit is left to store, the next is stored before those stored already; at the end none is left.
 -- Assumes nothing.
 use Rattle.std.proofs.Common.{arith}
-use Rattle.text.proofs.Digits.{left-place, left_room, left_next, left_last}
+use Rattle.text.proofs.Digits.{storing_first, storing_next, storing_last}
 use Rattle.text.proofs.Writing.{written_at}
 use Rattle.text.proofs.Output.put_digits.Goals as goal
 
-pub overflow_sub-i : goal.overflow_sub-i
-overflow_sub-i c = omega (arith, left-place c.loop-rest.invariant)
+pub loop-i-init : goal.loop-i-init
+loop-i-init c = storing_first _ _ _ _ (omega arith) (omega arith) (omega arith)
 
-pub bounds-bytes-i : goal.bounds-bytes-i
-bounds-bytes-i c = omega (arith, left-place c.loop-rest.invariant)
-
-pub loop-rest-preserved : goal.loop-rest-preserved
-loop-rest-preserved c = left_next c.loop-rest.invariant c.loop-rest-test.true
-
-pub bounds-bytes-at : goal.bounds-bytes-at
-bounds-bytes-at c = left_room c.loop-rest.invariant
+pub loop-i-preserved : goal.loop-i-preserved
+loop-i-preserved c = storing_next c.loop-i.invariant (omega arith)
 
 pub returns-clause-written : goal.returns-clause-written
-returns-clause-written c = written_at _ _ _ _ _ (left_last c.loop-rest.invariant (omega arith)) (omega arith) (omega arith)
+returns-clause-written c = written_at _ _ _ _ _ (storing_last c.loop-i.invariant (omega arith)) (omega arith) (omega arith)
