@@ -9,12 +9,11 @@ use lib.Dec.{eqb}
 use lib.ListN.{set as store, length-set, length-append}
 use lib.Seq.{take-suc-set, take_at, take_all}
 use Rattle.lists.specs.Tabulate.{tab, all, count, keep}
-use Rattle.lists.proofs.Bools.{clash}
 use Rattle.lists.proofs.Count.{to_ℕ, count_ext, count_last}
 use Rattle.polynomial.specs.Polynomial.{value}
 use Rattle.members.specs.Members.{size, has}
 use Rattle.members.proofs.Listed.{passing, length_passing, passing_more, passing_prefix}
-use Rattle.decoding.specs.Internal.Candidate.{sound, chosen, Gathered}
+use Rattle.decoding.specs.Internal.Candidate.{sound, chosen, AtHand}
 use Rattle.decoding.specs.declared.Word.{Word}
 use Rattle.decoding.specs.Internal.Words.{meets_at, meeting}
 use Rattle.decoding.proofs.Unique.{agrees, card-agreeing}
@@ -127,29 +126,23 @@ module _ (n : ℕ) (p : ℕ → Bool) (i k : ℕ) (inside : i ≤ n) (many : cou
       let e : length (passing n p) ≡ length (passing i p) + length whole.0 = ap length whole.1 ∙ length-append (passing i p) whole.0 in
       omega (arith, e, long, length_passing n p)
 
-module _ (w : Word) (set : ℕ) (e points kept : List ℕ) {m i : ℕ} (g : Gathering w.points.now w.t w.values.now set e points kept m i) where
+module _ (w : Word) (e points kept : List ℕ) {m i : ℕ} (g : Gathering w.points.now w.t w.values.now w.set e points kept m i) where
   -- t + 1 are at hand
-  pub gathered_full : w.t < m → Gathered w set e points kept true
+  pub gathered_full : w.t < m → AtHand w e points kept
   unfolding chosen passing
   gathered_full l =
-      let p : ℕ → Bool = sound w.points.now set e in
+      let p : ℕ → Bool = sound w.points.now w.set e in
       let full : m ≡ suc w.t = omega (arith, g.at_most) in
       let many : count i p ≡ suc w.t = sym g.counted ∙ full in
-      let ones : passing i p ≡ chosen w.points.now w.t set e = first-ones (size w.t) p i (suc w.t) g.inside many in
+      let ones : passing i p ≡ chosen w.points.now w.t w.set e = first-ones (size w.t) p i (suc w.t) g.inside many in
       record {
-        enough = λ _. many_of (size w.t) p i (suc w.t) g.inside many;
-        points_are = λ _. ap (λ (k : ℕ). take k points) (sym full) ∙ g.points_are ∙ ap (map (λ k. get_or w.points.now k 0)) ones;
-        values_are = λ _. sym (take_all m kept (le_of_eq (g.long_kept ∙ sym full))) ∙ g.kept_are ∙ ap (map (λ k. get_or w.values.now k 0)) ones;
-        few = λ no. absurd (clash refl no);
+        enough = many_of (size w.t) p i (suc w.t) g.inside many;
+        points_are = ap (λ (k : ℕ). take k points) (sym full) ∙ g.points_are ∙ ap (map (λ k. get_or w.points.now k 0)) ones;
+        values_are = sym (take_all m kept (le_of_eq (g.long_kept ∙ sym full))) ∙ g.kept_are ∙ ap (map (λ k. get_or w.values.now k 0)) ones;
       }
 
   -- all members are seen, and there are not so many
-  pub gathered_all : size w.t ≤ i → m ≤ w.t → Gathered w set e points kept false
+  pub gathered_all : size w.t ≤ i → m ≤ w.t → count (size w.t) (sound w.points.now w.set e) < suc w.t
   gathered_all h l =
       let all_n : i ≡ size w.t = omega (arith, g.inside) in
-      record {
-        enough = λ no. absurd (clash no refl);
-        points_are = λ no. absurd (clash no refl);
-        values_are = λ no. absurd (clash no refl);
-        few = λ _. omega (arith, g.counted, ap (λ (j : ℕ). count j (sound w.points.now set e)) all_n);
-      }
+      omega (arith, g.counted, ap (λ (j : ℕ). count j (sound w.points.now w.set e)) all_n)

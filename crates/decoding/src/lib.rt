@@ -1,8 +1,7 @@
 // Decoding one word: the polynomial of degree at most t that enough members of a set meet, by Welch and Berlekamp's method.
 //
-// First a guess: the polynomial through the first t + 1 members of a hint, if enough members agree with it. Else the crate `locator` gives an E that is 0
-// at every member with a wrong value, if some polynomial meets enough members; that one goes through the first t + 1 members at which E is not 0. Whether
-// enough members meet it is then counted.
+// The crate `locator` gives an E that is 0 at every member with a wrong value, if some polynomial meets enough members; that one goes through the first
+// t + 1 members at which E is not 0. Whether enough members meet it is then counted.
 #![tactic(auto)]
 
 ghost use Rattle.std.specs.Prelude.{◌≡◌, ◌||◌, not, suc, ◌≤◌, ◌<◌, ◌^◌, length, get_or};
@@ -49,31 +48,31 @@ impl Word<'_> {
 
     // Member i is in the set and e is not 0 at its point.
     #[tactic(auto, using(std::proofs::lemmas::Bool::Decides::nat_tests), unfolding(crate::specs::Internal::Candidate::sound))]
-    fn sound(&self, set: u32, e: &[u16], i: usize) -> bool
+    fn sound(&self, e: &[u16], i: usize) -> bool
         requires { i < size self.now.t }
-        ensures { result ≡ sound self.now.points.now set e.now i }
+        ensures { result ≡ sound self.now.points.now self.now.set e.now i }
     {
-        members::has(set, i) && polynomial::evaluate(e, self.points[i]) != 0
+        members::has(self.set, i) && polynomial::evaluate(e, self.points[i]) != 0
     }
 
     // The points and values of the first t + 1 members of the set at which e is not 0, if there are so many. They go into two buffers, since
-    // `polynomial::interpolate` takes points and, in place of the coefficients, values.
-    fn gather(&self, set: u32, e: &[u16], chosen: &mut [u16; 16], kept: &mut [u16]) -> bool
+    // `polynomial::interpolate` takes points and, in place of the coefficients, values. Places are counted by hand: they are filled as such members are met.
+    fn gather(&self, e: &[u16], chosen: &mut [u16; 16], kept: &mut [u16]) -> Option<()>
         requires { length kept.old ≡ suc self.now.t }
-        ensures { Gathered self.now set e.now chosen.new kept.new result }
+        ensures { Gathered self.now e.now chosen.new kept.new result }
     {
         let mut found = 0;
         for (i, value) in self.values.iter().enumerate() {
-            if self.sound(set, e, i) {
+            if self.sound(e, i) {
                 chosen[found] = self.points[i];
                 kept[found] = *value;
                 found += 1;
                 if self.t < found {
-                    return true;
+                    return Some(());
                 }
             }
         }
-        false
+        None
     }
 
     // Member i is in the set and agrees with f.
@@ -106,34 +105,30 @@ impl Word<'_> {
         least <= self.agreeing(f)
     }
 
-    // The polynomial through the first t + 1 members among these at which e is not 0 is in the buffer, and enough members of the set agree with it: a bool says
-    // so, since the coefficients are in the lent buffer and no memory is allocated. Inlined, since a call would make the stack of decoding larger.
+    // The polynomial through the first t + 1 members of the set at which e is not 0, if enough members of the set agree with it: it is in the lent buffer.
+    // Inlined, since a call would make the stack of decoding larger.
     #[inline(always)]
-    fn through(&self, among: u32, e: &[u16], coefficients: &mut [u16]) -> bool
+    fn through(&self, e: &[u16], coefficients: &mut [u16]) -> Option<()>
         requires { length coefficients.old ≡ suc self.now.t }
-        ensures { Tried self.now among e.now result coefficients.new }
+        ensures { Tried self.now e.now coefficients.new result }
     {
         let mut chosen = [0; 16];
-        if !self.gather(among, e, &mut chosen, coefficients) {
-            return false;
-        }
+        self.gather(e, &mut chosen, coefficients)?;
         polynomial::interpolate(&chosen[..self.t + 1], coefficients);
-        self.enough_agree(coefficients)
+        if self.enough_agree(coefficients) {
+            return Some(());
+        }
+        None
     }
 
-    // The polynomial that enough members of the set agree with, in the buffer; it does not depend on the hint.
-    fn solve(&self, hint: u32, coefficients: &mut [u16]) -> Result<(), Refusal>
+    // The polynomial that enough members of the set agree with, in the buffer.
+    fn solve(&self, coefficients: &mut [u16]) -> Result<(), Refusal>
         requires { length coefficients.old ≡ suc self.now.t }
         ensures { outcome result coefficients.new ≡ decoded_from (suc self.now.t) (solution self.now) }
     {
-        if self.through(hint, &[1], coefficients) {
-            return Ok(());
-        }
         let pairs = locator::locate(self.t, self.points, self.values, self.set);
-        if self.through(self.set, &pairs.second.e, coefficients) {
-            return Ok(());
-        }
-        Err(Refusal::TooFewAgree)
+        self.through(&pairs.second.e, coefficients)
+            .ok_or(Refusal::TooFewAgree)
     }
 }
 
@@ -173,13 +168,7 @@ fn check(t: usize, values: &[u16], set: u32, room: usize) -> Result<(), Refusal>
 }
 
 // Decoding, but that a refusal does not fill the buffer.
-fn work_out(
-    t: usize,
-    values: &[u16],
-    set: u32,
-    hint: u32,
-    coefficients: &mut [u16],
-) -> Result<(), Refusal>
+fn work_out(t: usize, values: &[u16], set: u32, coefficients: &mut [u16]) -> Result<(), Refusal>
     ensures { outcome result coefficients.new ≡ decode t values.now set (length coefficients.old) }
 {
     check(t, values, set, coefficients.len())?;
@@ -192,31 +181,17 @@ fn work_out(
         values,
         set,
     };
-    word.solve(hint, coefficients)
+    word.solve(coefficients)
 }
 
 // Decodes the values of the members of the set into t + 1 coefficients, power 0 first; refusals 1, 11, 19, 12, 17, 18 and 16.
-// The answer does not depend on the hint. If enough members agree with the polynomial through the first t + 1 members of the hint, it is found sooner.
 #[tactic(auto, unfolding(crate::specs::Decoding::undecoded))]
-pub fn decode_near(
-    t: usize,
-    values: &[u16],
-    set: u32,
-    hint: u32,
-    coefficients: &mut [u16],
-) -> Result<(), Refusal>
+pub fn decode(t: usize, values: &[u16], set: u32, coefficients: &mut [u16]) -> Result<(), Refusal>
     ensures { answer_of result coefficients.new ≡ decode t values.now set (length coefficients.old) }
 {
-    let answer = work_out(t, values, set, hint, coefficients);
+    let answer = work_out(t, values, set, coefficients);
     if answer.is_err() {
         lists::fill(coefficients, 65535);
     }
     answer
-}
-
-// Decoding with no hint.
-pub fn decode(t: usize, values: &[u16], set: u32, coefficients: &mut [u16]) -> Result<(), Refusal>
-    ensures { answer_of result coefficients.new ≡ decode t values.now set (length coefficients.old) }
-{
-    decode_near(t, values, set, 0, coefficients)
 }

@@ -7,7 +7,7 @@ ghost use Rattle.lists.specs.Tabulate.{tab};
 ghost use Rattle.field.specs.Field.{prime, difference, product, inverse};
 ghost use Rattle.members.specs.Members.{card};
 ghost use Rattle.lagrange.specs.Internal.Lagrange.{over, Apart, inverted, weight as weight_of, weights as weights_of, Reads};
-ghost use Rattle.lagrange.specs.Internal.Matrix.{Chosen, Rows};
+ghost use Rattle.lagrange.specs.Internal.Matrix.{Chosen, Rows, products};
 
 // The points of some of n members, and the rows that read off the polynomial through any values at them: the row for x its value at x, which is 0 or any
 // member's point. Both are lent, so that they can be filled anew for other members.
@@ -128,7 +128,8 @@ pub fn prepare<'a>(
     rows: &'a mut [[u16; 16]; 32],
 ) -> Matrix<'a>
     requires { (n ≤ 31) × (set < 2 ^ n) × (length points.old ≤ card n set) × (length points.old ≤ 16) }
-    ensures { (result.n ≡ n) × (length result.points.now ≡ length points.old) }
+    ensures made { (result.n ≡ n) × (length result.points.now ≡ length points.old) }
+    ensures same_references { (result.points.ghost_name ≡ points.entry.ghost_name) × (result.rows.ghost_name ≡ rows.entry.ghost_name) }
 {
     let mut room = [0u16; 16];
     let weights = &mut room[..points.len()];
@@ -138,14 +139,26 @@ pub fn prepare<'a>(
     Matrix { n, points, rows }
 }
 
+// The inner products of the words with each row.
+#[tactic(auto, using(lists::proofs::Loops::writes), unfolding(crate::specs::Internal::Matrix::products))]
+pub fn expect(rows: &[[u16; 16]; 32], words: &[u16], expected: &mut [u16])
+    requires { (length words.now ≤ 16) × (length expected.old ≤ 32) }
+    ensures { expected.new ≡ tab (length expected.old) (products rows.now words.now) }
+{
+    let count = words.len();
+    for (x, word) in expected.iter_mut().enumerate() {
+        *word = field::inner_product(&rows[x][..count], words);
+    }
+}
+
 impl Matrix<'_> {
     ghost use Rattle.polynomial.specs.Polynomial.{value, interpolate};
-    ghost use Rattle.lagrange.specs.Internal.Matrix.{products};
 
     // The matrix for the first members of another set, in the same room.
     pub fn renew(self, set: u32) -> Self
         requires { (set < 2 ^ self.n) × (length self.points.now ≤ card self.n set) }
-        ensures { (result.n ≡ self.entry.n) × (length result.points.now ≡ length self.entry.points.now) }
+        ensures made { (result.n ≡ self.entry.n) × (length result.points.now ≡ length self.entry.points.now) }
+        ensures same_references { (result.points.ghost_name ≡ self.entry.points.ghost_name) × (result.rows.ghost_name ≡ self.entry.rows.ghost_name) }
     {
         let Matrix { n, points, rows } = self;
         prepare(n, set, points, rows)
@@ -153,17 +166,12 @@ impl Matrix<'_> {
 
     // The inner products of the words with each row. If the words are values at the points, they are the values at 0 and at all members' points of the
     // polynomial through them.
-    #[tactic(auto, using(lists::proofs::Loops::writes), unfolding(crate::specs::Internal::Matrix::products))]
     pub fn expect(&self, words: &[u16], expected: &mut [u16])
         requires { (length words.now ≤ 16) × (length expected.old ≤ 32) }
         ensures sums { expected.new ≡ tab (length expected.old) (products self.now.rows.now words.now) }
         ensures values { length words.now ≡ length self.now.points.now → length expected.old ≡ suc self.now.n
             → expected.new ≡ tab (suc self.now.n) (value (interpolate self.now.points.now words.now)) }
     {
-        let count = words.len();
-        let rows = &*self.rows;
-        for (x, word) in expected.iter_mut().enumerate() {
-            *word = field::inner_product(&rows[x][..count], words);
-        }
+        expect(self.rows, words, expected);
     }
 }

@@ -12,7 +12,7 @@ loop-i-init c = record { so_far = gathering_first _ _ _ _ _ _ _ (omega arith) c.
 pub returns-then-self-found : goal.returns-then-self-found
 returns-then-self-found c =
     let inside : c.loop-i.i < size c.args.self.now.t = omega (arith, c.args.self.now.as_many) in
-    gathered_full _ _ _ _ _
+    gathered_full c.args.self.now _ _ _
     (gathering_in _ _ _ _ _ _ _ c.loop-i.invariant.so_far inside c.args.self.now.small c.loop-i.invariant.not_all (sym c.sound.ensures ∙ c.if-sound.true))
     (omega arith)
 
@@ -36,4 +36,4 @@ loop-i-preserved c =
 
 pub returns : goal.returns
 returns c =
-    gathered_all _ _ _ _ _ c.loop-i.invariant.so_far (omega (arith, c.args.self.now.as_many)) c.loop-i.invariant.not_all
+    gathered_all c.args.self.now _ _ _ c.loop-i.invariant.so_far (omega (arith, c.args.self.now.as_many)) c.loop-i.invariant.not_all

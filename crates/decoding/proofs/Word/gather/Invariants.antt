@@ -6,6 +6,6 @@ use Rattle.decoding.proofs.Word.gather.Given as goal
 
 abbrev pub invariant-loop-i : goal.invariant-loop-i
 invariant-loop-i l = record {
-  so_far : Gathering l.self.points.now l.self.t l.self.values.now l.set l.e l.chosen l.kept l.found l.i;
+  so_far : Gathering l.self.points.now l.self.t l.self.values.now l.self.set l.e l.chosen l.kept l.found l.i;
   not_all : l.found ≤ l.self.t;
 }
