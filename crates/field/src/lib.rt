@@ -49,7 +49,8 @@ pub fn add_product(c: u16, a: u16, b: u16) -> u16
     ((c as u32 + a as u32 * b as u32) % 65521) as u16
 }
 
-// c plus the products of two lists, place by place, with one reduction
+// c plus the products of two lists, place by place, with one reduction. Whole products of so few words add up in 64 bits; `inner_product` is for long lists,
+// where 32-bit halves let the compiler use vectors.
 #[tactic(auto, using(crate::proofs::Dot::adding))]
 pub fn add_products<const N: usize>(c: u16, a: &[u16; N], b: &[u16; N]) -> u16
     requires { N ≤ 64 }
@@ -63,7 +64,8 @@ pub fn add_products<const N: usize>(c: u16, a: &[u16; N], b: &[u16; N]) -> u16
 }
 
 // low + 2^16 · high modulo p, since 2^16 is 15 modulo p. Long sums of products are kept as sums of their low and of their high 16 bits: both fit 32 bits,
-// and so they are made for several places at once.
+// and so they are made for several places at once. Such sums stand in three places: `inner_product` has one in two variables, a lane of `lanes` one in a pair of
+// words, and `parity` 64 in two arrays. One type for all would need a length, indices that must be proved inside it, and a bound for each of the three.
 pub fn join_halves(low: u32, high: u32) -> u16
     requires { (low ≤ 268435455) × (high ≤ 268435455) }
     ensures { result ≡ (low + 65536 * high) % prime }

@@ -11,7 +11,7 @@ pub fn within(low: usize, high: usize, x: usize) -> bool
     low <= x && x <= high
 }
 
-// The word at every place of the buffer.
+// The word at every place of the buffer. It stands beside the slice's own `fill` for its contract: one equation with `replicate`, which callers' proofs rewrite by.
 pub fn fill(buffer: &mut [u16], word: u16)
     ensures { buffer.new ≡ replicate (length buffer.old) word }
 {

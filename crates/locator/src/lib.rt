@@ -98,7 +98,8 @@ impl Pairs {
         }
     }
 
-    // All members' steps, from the pairs (1, 0) and (0, 1).
+    // All members' steps, from the pairs (1, 0) and (0, 1). Points, values and set are what decoding's `Word` holds, which is above this crate and holds a station's
+    // shape besides.
     fn pass(&mut self, t: usize, points: &[u16], values: &[u16], set: u32)
         requires { (t ≤ 15) × (length points.now ≡ size t) × (length values.now ≡ size t) × (state_of self.old ≡ start 31) }
         ensures { state_of self.new ≡ passed points.now t (λ i. get_or values.now i 0) set 31 (size t) }

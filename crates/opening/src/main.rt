@@ -16,7 +16,8 @@ fn judge(got: io::Result<usize>, buffer: &[u8]) -> io::Result<usize>
     Ok(got?.min(buffer.len()))
 }
 
-// Reads until the input ends or the buffer is full: how many bytes were read, or that a read failed.
+// Reads until the input ends or the buffer is full: how many bytes were read, or that a read failed. It counts them itself, since it fills room that is lent:
+// the library's `read_to_end` fills a vector, on the heap.
 fn read_input<R: Read>(reader: &mut R, text: &mut [u8]) -> io::Result<usize>
     ensures inside { Inside result (length text.old) }
     ensures length { length text.new ≡ length text.old }

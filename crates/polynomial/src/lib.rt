@@ -46,7 +46,8 @@ pub fn fill_powers(x: u16, powers: &mut [u16])
     }
 }
 
-// Eight coefficients times the powers 0 to 7, and `top` times the power 8, with no reduction.
+// Eight coefficients times the powers 0 to 7, and `top` times the power 8, with no reduction. As `&[u16; 8]`, taken by `as_chunks`, the block would need a law that
+// `sixteen` is the same over chunks as over `take` and `drop`.
 #[tactic(auto, using(field::proofs::Dot::adding))]
 fn add_eight(block: &[u16], powers: &[u16; 9], top: u64) -> u64
     requires { (length block.now ≡ 8) × (top ≤ 38653526025) }

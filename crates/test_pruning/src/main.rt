@@ -1,13 +1,10 @@
 // Prunes tables of votes, and compares what is left with another way of finding the largest set.
 #![tactic(auto)]
 
+ghost use Rattle.std.specs.Prelude.{◌<◌, IfSome};
+
 use refusals::number_of;
 use std::io;
-
-// What pruning leaves; all 32 bits, which it never leaves, where it refuses.
-fn left(t: usize, rows: &[u32]) -> u32 {
-    pruning::prune(t, rows).unwrap_or(4294967295)
-}
 
 // Common members, counted bit by bit.
 fn votes(row: u32, set: u32) -> u32 {
@@ -25,46 +22,36 @@ fn weak(need: u32, row: u32, set: u32, i: usize) -> bool {
     i < 32 && set >> i & 1 == 1 && votes(row, set) < need
 }
 
-// Of three members: nobody in the set is weak.
-fn closed(rows: &[u32; 3], set: u32) -> bool {
-    if weak(2, rows[0], set, 0) {
-        return false;
+// The last member of the set that is weak, if there is one.
+fn last_weak<const N: usize>(need: u32, rows: &[u32; N], set: u32) -> Option<usize>
+    ensures { IfSome result (λ i. i < N) }
+{
+    for i in (0..N).rev() {
+        if weak(need, rows[i], set, i) {
+            return Some(i);
+        }
     }
-    if weak(2, rows[1], set, 1) {
-        return false;
-    }
-    !weak(2, rows[2], set, 2)
+    None
 }
 
-// The closed sets of three members, joined.
+// The sets of three members in which nobody is weak, joined.
 fn joined(rows: &[u32; 3]) -> u32 {
     let mut all: u32 = 0;
     for set in 0..8u32 {
-        if closed(rows, set) {
+        if last_weak(2, rows, set).is_none() {
             all |= set;
         }
     }
     all
 }
 
-// The last weak member of 31, or 31.
-fn last_weak(rows: &[u32; 31], set: u32) -> usize {
-    for i in (0..31usize).rev() {
-        if weak(16, rows[i], set, i) {
-            return i;
-        }
-    }
-    31
-}
-
 // Of 31 members, weak ones are struck one at a time, the last first.
 fn struck(rows: &[u32; 31]) -> u32 {
     let mut set: u32 = 2147483647;
     for _ in 0..31u8 {
-        let i = last_weak(rows, set);
-        if 31 <= i {
+        let Some(i) = last_weak(16, rows, set) else {
             return set;
-        }
+        };
         set ^= 1u32 << i;
     }
     set
@@ -115,10 +102,13 @@ struct Tally {
     sum: u64,
 }
 
-// One more table, of as many members as `all` has.
-fn more(t: Tally, all: u32, set: u32) -> Tally {
+// One more table, of as many members as `all` has; one whose two ways differ counts nowhere.
+fn more(t: Tally, all: u32, left: Option<u32>) -> Tally {
+    let Some(set) = left else {
+        return t;
+    };
     Tally {
-        agree: t.agree.wrapping_add(u64::from(set <= all)),
+        agree: t.agree.wrapping_add(1),
         nobody: t.nobody.wrapping_add(u64::from(set == 0)),
         everybody: t.everybody.wrapping_add(u64::from(set == all)),
         sum: t.sum.wrapping_add(u64::from(set)),
@@ -132,14 +122,13 @@ fn report(rt: &impl Print, t: Tally) -> io::Result<()> {
     println!(rt; "sum of what is left: {}", t.sum)
 }
 
-// What both ways leave, pruning and another; all 32 bits where they differ.
-fn both(t: usize, rows: &[u32], other: u32) -> u32 {
-    let set = left(t, rows);
-    if set == other { set } else { 4294967295 }
+// What pruning leaves, if it does not refuse and another way leaves the same.
+fn both(t: usize, rows: &[u32], other: u32) -> Option<u32> {
+    pruning::prune(t, rows).ok().filter(|set| *set == other)
 }
 
 // What is left of the chain whose first member has these votes.
-fn chained(first: u32) -> u32 {
+fn chained(first: u32) -> Option<u32> {
     let mut rows = [0u32; 31];
     chain(&mut rows, first);
     both(15, &rows, struck(&rows))
@@ -167,10 +156,18 @@ fn large() -> Tally {
     t
 }
 
+// What is left of a table, or that there is no answer.
+fn show(rt: &impl Print, name: &str, left: Option<u32>) -> io::Result<()> {
+    match left {
+        Some(set) => println!(rt; "{name}: {set}"),
+        None => println!(rt; "{name}: refused, or the two ways differ"),
+    }
+}
+
 fn main(rt: HostRuntime) -> io::Result<()> {
-    println!(rt; "C6: {}", left(1, &[3, 6, 4]))?;
-    println!(rt; "C7: {}", left(1, &[7, 7, 7]))?;
-    println!(rt; "C8: {}", left(1, &[3, 3, 4]))?;
+    show(&rt, "C6", pruning::prune(1, &[3, 6, 4]).ok())?;
+    show(&rt, "C7", pruning::prune(1, &[7, 7, 7]).ok())?;
+    show(&rt, "C8", pruning::prune(1, &[3, 3, 4]).ok())?;
     println!(rt; "no threshold: {}", number_of(pruning::prune(0, &[8])))?;
     println!(rt; "threshold 16: {}", number_of(pruning::prune(16, &[8])))?;
     println!(rt; "one row: {}", number_of(pruning::prune(1, &[8])))?;
@@ -178,8 +175,8 @@ fn main(rt: HostRuntime) -> io::Result<()> {
         "a bit beyond member 3: {}",
         number_of(pruning::prune(1, &[3, 3, 8]))
     )?;
-    println!(rt; "a chain of 31: {}", chained(65535))?;
-    println!(rt; "one vote short at its first member: {}", chained(32767))?;
+    show(&rt, "a chain of 31", chained(65535))?;
+    show(&rt, "one vote short at its first member", chained(32767))?;
     report(&rt, small())?;
     report(&rt, large())
 }
