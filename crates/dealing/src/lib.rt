@@ -43,6 +43,7 @@ impl Supply<'_> {
         requires { length words.old ≡ self.now.shape.d }
         ensures { words.new ≡ words_at self.now.shape.t self.now.secret.now self.now.random.now x }
     {
+        // few: not worth the powers
         if !shares::is_large(self.shape.t, self.shape.d) {
             self.fill_words_by(polynomial::evaluate_with, x, words);
             return;
@@ -119,6 +120,7 @@ impl Supply<'_> {
         requires { (i < self.now.shape.n) × (length tags.old ≡ self.now.shape.n) }
         ensures { tags.new ≡ tags_of self.now.shape.t self.now.shape.d self.now.day self.now.random.now i words.now }
     {
+        // many: worth gathering the keys
         if shares::is_large(self.shape.t, self.shape.d) {
             self.fill_tags_at_once(i, words, tags);
         } else {
