@@ -9,23 +9,15 @@ use borrow.Rule.Slice.PartMut.{put_mid}
 use Rattle.lists.specs.Tabulate.{tab, concat}
 use Rattle.lists.proofs.Tabulate.{get_or-tab, tab_ext}
 use Rattle.lists.proofs.Blocks.{concat_more}
-use Rattle.field.specs.Field.{sum, product}
-use Rattle.polynomial.specs.Polynomial.{value}
-use Rattle.polynomial.proofs.Evaluation.{value-cons}
 use Rattle.mac.specs.Tag.{tag}
 use Rattle.members.specs.Members.{size}
 use Rattle.shares.specs.Layout.{width, assembled}
 use Rattle.shares.specs.declared.Shape.{Shape}
 use Rattle.shares.proofs.Places.{row_inside}
-use Rattle.shares.proofs.Shapes.{station}
 use Rattle.dealing.specs.Dealing.{random_length, dealt_α, dealt_β, dealt_words, dealt_tag, dealt_share}
 use Rattle.dealing.specs.Internal.Steps.{Supplied, KeyAt, words_at, tag_of, tags_of, keys_of}
 use Rattle.dealing.proofs.Laws.{length-share}
 use Rattle.dealing.proofs.Places.{α_there, β_there}
-
--- one more step of Horner's rule
-pub horner : (a : ℕ) (others : List ℕ) (x : ℕ) → value (a ∷ others) x ≡ sum a (product x (value others x))
-horner a others x = value-cons a others x
 
 -- what stands at the place of a key
 pub ruleset keys = (α_there, β_there)
@@ -76,6 +68,9 @@ module _ (s : Shape) (secret random : List ℕ) (i from : ℕ) (given : Supplied
       (tab_ext (size s.t) (pair random from) (λ j. dealt_α s.t s.d random i j ∷ dealt_β s.t s.d random i j ∷ [])
       (λ j b. ap (λ (p : ℕ). get_or random p 0 ∷ get_or random (p + 1) 0 ∷ []) {y = s.t * s.d + 2 * (i * size s.t + j)} (omega (arith, at.stands))))
 
+-- for the keys that are copied
+pub ruleset member_keys = (keys_inside, keys_stand)
+
 -- the first n of m words
 take_tab : (n m : ℕ) (f : ℕ → ℕ) → n ≤ m → take n (tab m f) ≡ tab n f
 unfolding tab
@@ -95,7 +90,7 @@ unfolding tags_of tag_of
 tags_made s day i random words alphas betas made a b e =
     let under : ℕ → ℕ = λ j. tag (get_or alphas j 0) (get_or betas j 0) (day ∷ words) in
     ap (λ (l : List ℕ). take s.n l) e
-    ∙ take_tab s.n 32 under (omega (arith, (station s).few))
+    ∙ take_tab s.n 32 under (omega (arith, s.few))
     ∙ tab_ext s.n under (λ j. tag_of s.t s.d day random i words j)
     (λ j h. ap₂ (λ (α β : ℕ). tag α β (day ∷ words)) (gathered alphas s.n _ a j h) (gathered betas s.n _ b j h))
     ∙ ap (λ (n : ℕ). tab n (λ j. tag_of s.t s.d day random i words j)) s.members

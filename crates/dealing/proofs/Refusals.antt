@@ -15,7 +15,6 @@ use Rattle.field.specs.Field.{is_field_word}
 use Rattle.members.specs.Members.{is_threshold, size, own_points}
 use Rattle.shares.specs.Layout.{is_length, is_day, width}
 use Rattle.shares.specs.declared.Shape.{Shape}
-use Rattle.shares.proofs.Shapes.{station}
 use Rattle.dealing.proofs.Places.{coefficients_le, row_le}
 use Rattle.dealing.specs.Dealing.{random_length, dealt_shares, Dealt, checks, deal}
 use Rattle.dealing.specs.Internal.Steps.{Accepted}
@@ -78,9 +77,6 @@ module _ (t day : ℕ) (secret random buffer : List ℕ) where
     pub few_keys : s.n * s.n ≤ 961
     few_keys = row_le s s.n (le_refl s.n)
 
-    pub few_words : s.n * s.width ≤ 4867
-    few_words = (station s).all_fit
-
     pub random_is : t * length secret + 2 * (s.n * s.n) ≡ random_length t (length secret)
     unfolding random_length
     random_is = ap (λ (n : ℕ). t * length secret + 2 * (n * n)) (s.members ∙ ap size et)
@@ -96,7 +92,6 @@ module _ (t day : ℕ) (secret random buffer : List ℕ) where
       let random_long : length random ≡ random_length t (length secret) = e₃ ∙ random_is s et ed in
       record {
         threshold = et;
-        station = station s;
         supplied = record { secret_long = sym ed; random_long = random_long ∙ ap₂ random_length (sym et) (sym ed) };
         room = e₄;
         dealt = sym (dealt e₁ e₂ e random_long (e₄ ∙ buffer_is s et ed) e₅ e₆ (dealt_shares (own_points t) t day secret random) refl);
@@ -110,4 +105,4 @@ module _ (t day : ℕ) (secret random buffer : List ℕ) where
       (record { number = 0; shares = dealt_shares (own_points t) t day secret random }) h
 
 -- for the checks as the code makes them
-pub ruleset by_check = (refused_1, refused_2, refused_32, refused_3, refused_4, refused_5, refused_6, few_coefficients, few_keys, few_words, random_is, buffer_is)
+pub ruleset by_check = (refused_1, refused_2, refused_32, refused_3, refused_4, refused_5, refused_6, few_coefficients, few_keys, random_is, buffer_is)

@@ -5,21 +5,12 @@ ghost use Rattle.std.specs.Prelude.{◌≡◌, ℕ, ◌*◌, suc, ◌<◌, ◌�
 ghost use Rattle.polynomial.specs.Polynomial.{value};
 ghost use Rattle.members.specs.Members.{own_points};
 ghost use Rattle.refusals.specs.Refusals.{number};
-ghost use Rattle.shares.specs.Internal.Shape.{Station};
 ghost use Rattle.dealing.specs.Dealing.{dealt_α, dealt_β, dealt_share, dealt_shares, deal as deal_of};
 ghost use Rattle.dealing.specs.Internal.Steps.{Supplied, KeyAt, Accepted, words_at, tag_of, tags_of, keys_of};
 ghost use Rattle.dealing.specs.Answer.{answer_of};
 
 use refusals::Refusal;
 use shares::{Key, Shape};
-
-// The polynomial with this constant coefficient and the others, at x.
-#[tactic(auto, using(crate::proofs::Filling::horner))]
-fn value_at(constant: u16, others: &[u16], x: u16) -> u16
-    ensures { result ≡ value (constant ∷ others.now) x }
-{
-    field::add_product(constant, x, polynomial::evaluate(others, x))
-}
 
 // What the shares are made of: the secret for a day, and the random words.
 #[derive(Clone, Copy)]
@@ -28,8 +19,6 @@ struct Supply<'a> {
     day: u16,
     secret: &'a [u16],
     random: &'a [u16],
-    // `station` follows from the shape; without it the check leaves thirteen goals open.
-    ghost station: { Station shape },
     ghost supplied: { Supplied shape secret.now random.now },
 }
 
@@ -54,8 +43,9 @@ impl Supply<'_> {
         requires { length words.old ≡ self.now.shape.d }
         ensures { words.new ≡ words_at self.now.shape.t self.now.secret.now self.now.random.now x }
     {
+        // few: not worth the powers
         if !shares::is_large(self.shape.t, self.shape.d) {
-            self.fill_words_by(value_at, x, words);
+            self.fill_words_by(polynomial::evaluate_with, x, words);
             return;
         }
         let mut powers = [0u16; 16];
@@ -130,6 +120,7 @@ impl Supply<'_> {
         requires { (i < self.now.shape.n) × (length tags.old ≡ self.now.shape.n) }
         ensures { tags.new ≡ tags_of self.now.shape.t self.now.shape.d self.now.day self.now.random.now i words.now }
     {
+        // many: worth gathering the keys
         if shares::is_large(self.shape.t, self.shape.d) {
             self.fill_tags_at_once(i, words, tags);
         } else {
@@ -138,6 +129,7 @@ impl Supply<'_> {
     }
 
     // Member i's keys, which stand one after the other among the random words too.
+    #[tactic(auto, using(crate::proofs::Filling::member_keys))]
     fn fill_keys(&self, i: usize, keys: &mut [u16])
         requires { (i < self.now.shape.n) × (length keys.old ≡ 2 * self.now.shape.n) }
         ensures { keys.new ≡ keys_of self.now.shape.t self.now.shape.d self.now.random.now i }
@@ -184,7 +176,8 @@ impl Supply<'_> {
     }
 }
 
-// The checks, in their order: the shape of what is to be dealt, or the first refusal.
+// The checks, in their order: the shape of what is to be dealt, or the first refusal. Each of the three calls with a check of t and d writes them out, so that its
+// order and its numbers stand in sight as its definition lists them; a part for all three would hide them.
 #[tactic(auto, using(crate::proofs::Refusals::by_check))]
 fn check(
     t: usize,

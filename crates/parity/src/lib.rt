@@ -5,9 +5,8 @@ ghost use Rattle.std.specs.Prelude.{◌≡◌, cond, suc, ◌*◌, ◌%◌, ◌�
 ghost use Rattle.lists.specs.Tabulate.{tab};
 ghost use Rattle.field.specs.Field.{prime, product};
 ghost use Rattle.members.specs.Members.{size};
-ghost use Rattle.shares.specs.Layout.{share_word};
 ghost use Rattle.parity.specs.Parity.{factorial as factorial_of, weight as weight_of};
-ghost use Rattle.parity.specs.Internal.Looking.{leading, zero_weight, looked, with_values};
+ghost use Rattle.parity.specs.Internal.Looking.{leading, words, zero_weight, looked, with_values};
 ghost use Rattle.parity.specs.Internal.Summing.{Fits, Cleared, Added, Summed, sum_at};
 
 use shares::Shares;
@@ -35,7 +34,7 @@ const WEIGHTS: [u16; 255] = [
     7645, 49641, 56228, 59748, 27549, 41509, 1656, 13049,
 ];
 
-// The weight of member i of n = 2t + 1, from the table.
+// The weight of member i of n = 2t + 1, from the table. (t is asked to be 1 to 15 here and below where no shape is at hand, which has these bounds itself.)
 pub fn weight(t: usize, i: usize) -> u16
     requires { (1 ≤ t) × (t ≤ 15) × (i < size t) }
     ensures { result ≡ weight_of (size t) i }
@@ -98,7 +97,7 @@ impl Halves {
     // For each place k, the sum of each entry of the row times its member's share word there.
     fn sum_row(&mut self, shares: &Shares, row: &[u16])
         requires { length row.now ≡ shares.now.shape.n }
-        ensures { Summed shares.now.shape.d (share_word shares.now.shape.t shares.now.shape.d shares.now.words.now) row.now shares.now.shape.n self.new.low self.new.high }
+        ensures { Summed shares.now.shape.d (words shares.now) row.now shares.now.shape.n self.new.low self.new.high }
     {
         self.clear();
         for (i, entry) in row.iter().enumerate() {
@@ -143,7 +142,7 @@ impl Halves {
 // How many words have all t sums 0, before one that has not.
 fn count_balanced(shares: &Shares, row: &mut [u16], sums: &mut Halves) -> usize
     requires { length row.old ≡ shares.now.shape.n }
-    ensures { result ≡ looked shares.now.shape.t shares.now.shape.d (share_word shares.now.shape.t shares.now.shape.d shares.now.words.now) }
+    ensures { result ≡ looked shares.now.shape.t shares.now.shape.d (words shares.now) }
 {
     fill_weights(shares.shape.t, row);
     let mut left = shares.shape.d;
@@ -195,11 +194,11 @@ fn fill_zero_weights(t: usize, row: &mut [u16])
     }
 }
 
-// The look, with room for a row and for the sums.
+// The look, with room for a row and for the sums, both lent: a value that holds the shares and these two would be made for this one call.
 fn look_by_rows(shares: &Shares, row: &mut [u16], sums: &mut Halves, secret: &mut [u16]) -> usize
     requires { (length row.old ≡ shares.now.shape.n) × (length secret.old ≡ shares.now.shape.d) }
-    ensures value { result ≡ looked shares.now.shape.t shares.now.shape.d (share_word shares.now.shape.t shares.now.shape.d shares.now.words.now) }
-    ensures secret_after { secret.new ≡ with_values shares.now.shape.t result (share_word shares.now.shape.t shares.now.shape.d shares.now.words.now) secret.old }
+    ensures value { result ≡ looked shares.now.shape.t shares.now.shape.d (words shares.now) }
+    ensures secret_after { secret.new ≡ with_values shares.now.shape.t result (words shares.now) secret.old }
 {
     let left = count_balanced(shares, row, sums);
     fill_zero_weights(shares.shape.t, row);
@@ -211,8 +210,8 @@ fn look_by_rows(shares: &Shares, row: &mut [u16], sums: &mut Halves, secret: &mu
 // The quick look at the share words of all n members: how many words pass it before one that does not. Their values at 0 are stored in front.
 pub fn look(shares: &Shares, secret: &mut [u16]) -> usize
     requires { length secret.old ≡ shares.now.shape.d }
-    ensures value { result ≡ looked shares.now.shape.t shares.now.shape.d (share_word shares.now.shape.t shares.now.shape.d shares.now.words.now) }
-    ensures secret_after { secret.new ≡ with_values shares.now.shape.t result (share_word shares.now.shape.t shares.now.shape.d shares.now.words.now) secret.old }
+    ensures value { result ≡ looked shares.now.shape.t shares.now.shape.d (words shares.now) }
+    ensures secret_after { secret.new ≡ with_values shares.now.shape.t result (words shares.now) secret.old }
 {
     let n = shares.shape.n;
     let mut row = [0; 31];

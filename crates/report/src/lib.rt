@@ -104,7 +104,8 @@ fn print_text(text: &[u8], words: &mut [u16; 4867], secret: &mut [u16; 64], outp
     }
 }
 
-// The bytes that the program prints for a text, at the front of the buffer, and how many.
+// The bytes that the program prints for a text, at the front of the buffer, and how many. (A part of the buffer as the answer would need a contract that ties the
+// part to the buffer that was lent.)
 pub fn report(text: &[u8], output: &mut [u8; 1024]) -> usize
     ensures { Reported text.now output.old output.new result }
 {

@@ -6,7 +6,6 @@ use Rattle.polynomial.specs.Polynomial.{value}
 use Rattle.mac.specs.Tag.{tag}
 use Rattle.members.specs.Members.{size, own_points}
 use Rattle.shares.specs.Layout.{tagged}
-use Rattle.shares.specs.Internal.Shape.{Station}
 use Rattle.shares.specs.declared.Shape.{Shape}
 use Rattle.dealing.specs.Dealing.{random_length, polynomial, dealt_α, dealt_β, dealt_shares, deal}
 
@@ -38,7 +37,6 @@ keys_of t d random i = concat (tab (size t) (λ j. dealt_α t d random i j ∷ d
 -- an input that is dealt, of this shape
 pub record Accepted (t day : ℕ) (secret random buffer : List ℕ) (s : Shape) : Type 0 where
   pub threshold : s.t ≡ t
-  pub station : Station s
   pub supplied : Supplied s secret random
   pub room : length buffer ≡ s.n * s.width
   pub dealt : deal t day secret random buffer ≡ record { number = 0; shares = dealt_shares (own_points t) t day secret random }

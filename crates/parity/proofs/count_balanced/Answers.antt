@@ -1,7 +1,6 @@
 -- `parity::count_balanced`: each turn takes one sum more; the first word fails where none is left.
 -- Assumes nothing.
 use Rattle.std.proofs.Common.{arith}
-use Rattle.shares.proofs.Shapes.{station}
 use Rattle.parity.proofs.Turns.{balancing_first, balancing_few, balancing_next, balancing_none, balancing_last}
 use Rattle.parity.proofs.count_balanced.Goals as goal
 
@@ -13,9 +12,6 @@ returns-then-left-eq0 c = balancing_none _ _ _ _ _ _ c.loop-m.invariant c.if-lef
 
 pub passing-left-requires : goal.passing-left-requires
 passing-left-requires c = record { most_bound = omega (arith, balancing_few _ _ _ _ _ _ c.loop-m.invariant, c.args.shares.now.shape.d_high) }
-
-pub raise-requires : goal.raise-requires
-raise-requires c = omega (arith, c.loop-m.invariant.long, c.args.shares.now.shape.members, (station c.args.shares.now.shape).few)
 
 pub loop-m-preserved : goal.loop-m-preserved
 loop-m-preserved c =

@@ -5,7 +5,13 @@ use Rattle.std.proofs.lemmas.List.Edits.{sets}
 use Rattle.lists.specs.Tabulate.{tab, sum_to}
 use Rattle.field.specs.Field.{prime, product}
 use Rattle.members.specs.Members.{size}
+use Rattle.shares.specs.Layout.{share_word}
+use Rattle.shares.specs.declared.Shares.{Shares}
 use Rattle.parity.specs.Parity.{factorial, weight, balanced}
+
+-- the share words of a station's shares: member i's word k
+abbrev pub words : Shares → ℕ → ℕ → ℕ
+words s = share_word s.shape.t s.shape.d s.words.now
 
 -- how many of the first n numbers pass the test before one does not
 unfoldable pub leading : ℕ → (ℕ → Bool) → ℕ

@@ -3,7 +3,6 @@
 use Rattle.std.proofs.Common.{ap, ◌∙◌, length, arith}
 use Rattle.lists.proofs.Tabulate.{length-tab}
 use Rattle.shares.specs.Layout.{share_words}
-use Rattle.shares.proofs.Shapes.{station}
 use Rattle.parity.proofs.Summing.{fits_most, summed_first, summed_next}
 use Rattle.parity.proofs.Halves.sum_row.Goals as goal
 
@@ -15,7 +14,7 @@ unfolding share_words
 add_member-requires-clause-few_words c = omega (arith, ap length c.share_words.ensures ∙ length-tab _ _, c.args.shares.now.shape.d_high)
 
 pub add_member-requires-clause-room : goal.add_member-requires-clause-room
-add_member-requires-clause-room c = fits_most 30 (omega (arith, (station c.args.shares.now.shape).few)) c.loop-i.invariant.fits
+add_member-requires-clause-room c = fits_most 30 (omega (arith, c.args.shares.now.shape.few)) c.loop-i.invariant.fits
 
 pub loop-i-preserved : goal.loop-i-preserved
 unfolding share_words
