@@ -18,6 +18,7 @@ use shares::{Shape, Shares};
 use text::Output;
 
 // A line of the right shape: the member is judged, and only then is its share's place worked out.
+#[tactic(auto, using(crate::proofs::Taking::share_room))]
 fn take_share(
     s: Shape,
     present: u32,

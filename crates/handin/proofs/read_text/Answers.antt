@@ -1,6 +1,6 @@
 -- The buffer's length is judged, then the text's; then the lines are read.
 -- Assumes nothing.
-use Rattle.std.proofs.Common.{refl, rules}
+use Rattle.std.proofs.Common.{rules}
 use Rattle.handin.proofs.Reading.{refused_so, read_25, read_21, read_whole}
 use Rattle.handin.proofs.read_text.Goals as goal
 
