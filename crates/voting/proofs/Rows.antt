@@ -19,7 +19,7 @@ use Rattle.field.specs.Field.{is_field_word}
 use Rattle.mac.specs.Tag.{tag}
 use Rattle.members.specs.Members.{size, has, set_of, adding}
 use Rattle.members.proofs.Words.{set_of_none, set_of_step}
-use Rattle.shares.specs.Layout.{tagged, width, word, share_words, tag_word_at, key_α, key_β}
+use Rattle.shares.specs.Layout.{width, word, tag_word_at}
 use Rattle.voting.specs.declared.Vote as code
 use Rattle.voting.specs.declared.Vote.TheVariants.{Accepted, Mismatched, Unread}
 use Rattle.voting.specs.declared.Pairs as code_pairs
@@ -40,14 +40,6 @@ share_tested t d words i share e = ap (each is_field_word) e ∙ each-tab is_fie
 -- the second of two tests, where the first passes
 pub second_test : (a b : Bool) → a ≡ true → (c : Bool) → c ≡ b → c ≡ (a && b)
 second_test a b h c e = rw h e
-
--- one member more of a set of those that pass a test: it passes, or not
-module _ (p : ℕ → Bool) (i set now : ℕ) (less : i < 32) (so_far : set ≡ set_of i p) where
-  pub taken_with : p i ≡ true → now ≡ adding set i → now ≡ set_of (i + 1) p
-  taken_with e h = h ∙ ap (λ (m : ℕ). adding m i) so_far ∙ set_of_step i p true less (sym e)
-
-  pub taken_without : p i ≡ false → now ≡ set → now ≡ set_of (i + 1) p
-  taken_without e h = h ∙ so_far ∙ set_of_step i p false less (sym e)
 
 -- the tags that member i has to have, from everybody's keys
 pub tags_expected : (b : Ballot) (i : ℕ) (alphas betas tags : List ℕ) → take b.shares.shape.n alphas ≡ tab b.shares.shape.n (λ k. key_of_α b k i)

@@ -116,13 +116,7 @@ fn is_usable(shares: &Shares, present: u32, i: usize) -> bool
 pub fn usable_members(shares: &Shares, present: u32) -> u32
     ensures { result ≡ usable shares.now.shape.t shares.now.shape.d present shares.now.words.now }
 {
-    let mut set: u32 = 0;
-    for i in 0..shares.shape.n {
-        if is_usable(shares, present, i) {
-            set = members::with(set, i);
-        }
-    }
-    set
+    members::those(shares.shape.n, |i| is_usable(shares, present, i))
 }
 
 // The vote of member j on member i, where `holds` tells whether i's tag for a member is the right one. It is asked only if both are usable.
@@ -172,16 +166,15 @@ impl Ballot<'_> {
         requires { i < self.now.shares.shape.n }
         ensures { Expected self.now i tags.new }
     {
-        let shares = self.shares;
         let mut alphas = [0u16; 32];
         let mut betas = [0u16; 32];
         shares::gather_keys(
-            shares.shape.n,
-            |k| shares.key(k, i),
+            self.shares.shape.n,
+            |k| self.shares.key(k, i),
             &mut alphas,
             &mut betas,
         );
-        mac::tags_with_first(&alphas, &betas, self.day, shares.share_words(i), tags);
+        mac::tags_with_first(&alphas, &betas, self.day, self.shares.share_words(i), tags);
     }
 
     // The same if member i is usable: else nobody looks.
@@ -202,7 +195,12 @@ impl Ballot<'_> {
         ensures { result ≡ holds self.now i j }
     {
         let key = self.shares.key(j, i);
-        let expected = mac::tag_with_first(key.alpha, key.beta, self.day, self.shares.share_words(i));
+        let expected = mac::tag_with_first(
+            key.alpha,
+            key.beta,
+            self.day,
+            self.shares.share_words(i),
+        );
         self.shares.tag(i, j) == expected
     }
 
@@ -212,7 +210,12 @@ impl Ballot<'_> {
         ensures { Row self.now i result }
     {
         let ballot = *self; // a copy of its own, which the compiler keeps in registers
-        row_by(ballot.shares.shape.n, ballot.able, i, |j| ballot.tag_holds(i, j))
+        row_by(
+            ballot.shares.shape.n,
+            ballot.able,
+            i,
+            |j| ballot.tag_holds(i, j),
+        )
     }
 
     // Everybody's votes on member i, all tags at once.
@@ -220,10 +223,14 @@ impl Ballot<'_> {
         requires { i < self.now.shares.shape.n }
         ensures { Row self.now i result }
     {
-        let shares = self.shares;
         let mut tags = [0u16; 32];
         self.expect_usable(i, &mut tags);
-        row_by(shares.shape.n, self.able, i, |j| shares.tag(i, j) == tags[j])
+        row_by(
+            self.shares.shape.n,
+            self.able,
+            i,
+            |j| self.shares.tag(i, j) == tags[j],
+        )
     }
 
     // Everybody's votes on member i, by whichever way is quicker.

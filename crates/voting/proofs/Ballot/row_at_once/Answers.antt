@@ -4,7 +4,6 @@ use Rattle.std.proofs.Common.{rules}
 use Rattle.voting.proofs.Rows.{told_by_tags, row_counted}
 use Rattle.voting.proofs.Ballot.row_at_once.Goals as goal
 
-
 pub returns : goal.returns
 returns c =
     row_counted c.args.self.now c.args.i _ _ c.row_by.ensures
