@@ -119,39 +119,6 @@ pub fn usable_members(shares: &Shares, present: u32) -> u32
     members::those(shares.shape.n, |i| is_usable(shares, present, i))
 }
 
-// The vote of member j on member i, where `holds` tells whether i's tag for a member is the right one. It is asked only if both are usable.
-fn test_tag<F: Fn(usize) -> bool>(able: u32, i: usize, j: usize, holds: &F) -> Vote
-    requires { F.pre holds.now j }
-    ensures { Tests able i j (F.post holds.now j) result }
-{
-    if !members::has(able, i) {
-        return Vote::Unread; // the member is not usable
-    }
-    if !members::has(able, j) {
-        return Vote::Unread; // the voter is not usable
-    }
-    if !holds(j) {
-        return Vote::Mismatched;
-    }
-    Vote::Accepted
-}
-
-// The votes of n members on member i, where `holds` tells whether i's tag for a member is the right one.
-fn row_by<F: Fn(usize) -> bool>(n: usize, able: u32, i: usize, holds: F) -> Counted
-    requires few { n ≤ 31 }
-    requires can { (j : ℕ) → j < n → F.pre holds j }
-    ensures { Counts able i (F.post holds) n result }
-{
-    let mut at = Counted {
-        row: 0,
-        pairs: no_pairs(),
-    };
-    for j in 0..n {
-        at = at.with(test_tag(able, i, j, &holds), j);
-    }
-    at
-}
-
 // The shares of a day and the usable members, who vote.
 #[derive(Clone, Copy)]
 struct Ballot<'a> {
@@ -195,13 +162,41 @@ impl Ballot<'_> {
         ensures { result ≡ holds self.now i j }
     {
         let key = self.shares.key(j, i);
-        let expected = mac::tag_with_first(
-            key.alpha,
-            key.beta,
-            self.day,
-            self.shares.share_words(i),
-        );
+        let words = self.shares.share_words(i);
+        let expected = mac::tag_with_first(key.alpha, key.beta, self.day, words);
         self.shares.tag(i, j) == expected
+    }
+
+    // The vote of member j on member i, where `holds` tells whether i's tag for a member is the right one. It is asked only if both are usable.
+    fn test_tag<F: Fn(usize) -> bool>(&self, i: usize, j: usize, holds: &F) -> Vote
+        requires { F.pre holds.now j }
+        ensures { Tests self.now.able i j (F.post holds.now j) result }
+    {
+        if !members::has(self.able, i) {
+            return Vote::Unread; // the member is not usable
+        }
+        if !members::has(self.able, j) {
+            return Vote::Unread; // the voter is not usable
+        }
+        if !holds(j) {
+            return Vote::Mismatched;
+        }
+        Vote::Accepted
+    }
+
+    // Everybody's votes on member i, where `holds` tells whether i's tag for a member is the right one.
+    fn row_by<F: Fn(usize) -> bool>(&self, i: usize, holds: F) -> Counted
+        requires { (j : ℕ) → j < self.now.shares.shape.n → F.pre holds j }
+        ensures { Counts self.now.able i (F.post holds) self.now.shares.shape.n result }
+    {
+        let mut at = Counted {
+            row: 0,
+            pairs: no_pairs(),
+        };
+        for j in 0..self.shares.shape.n {
+            at = at.with(self.test_tag(i, j, &holds), j);
+        }
+        at
     }
 
     // Everybody's votes on member i, one tag after the other.
@@ -210,12 +205,7 @@ impl Ballot<'_> {
         ensures { Row self.now i result }
     {
         let ballot = *self; // a copy of its own, which the compiler keeps in registers
-        row_by(
-            ballot.shares.shape.n,
-            ballot.able,
-            i,
-            |j| ballot.tag_holds(i, j),
-        )
+        ballot.row_by(i, |j| ballot.tag_holds(i, j))
     }
 
     // Everybody's votes on member i, all tags at once.
@@ -225,12 +215,7 @@ impl Ballot<'_> {
     {
         let mut tags = [0u16; 32];
         self.expect_usable(i, &mut tags);
-        row_by(
-            self.shares.shape.n,
-            self.able,
-            i,
-            |j| self.shares.tag(i, j) == tags[j],
-        )
+        self.row_by(i, |j| self.shares.tag(i, j) == tags[j])
     }
 
     // Everybody's votes on member i, by whichever way is quicker.
