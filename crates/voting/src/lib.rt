@@ -29,7 +29,7 @@ pub struct Pairs {
     pub unread: u16,
 }
 
-// No votes of any kind.
+// No votes of any kind. Not `Default`: a derived one has no line in which an edit could spoil one of the three numbers.
 pub fn no_pairs() -> Pairs
     ensures { pairs_of result ≡ no_pairs }
 {
