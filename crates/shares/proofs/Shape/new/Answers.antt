@@ -1,6 +1,6 @@
 -- `shares::Shape::new`: n and the width are by their definitions, and small for t and d in range.
 -- Assumes nothing.
-use Rattle.std.proofs.Common.{◌+◌, ◌*◌, ◌≤◌, arith}
+use Rattle.std.proofs.Common.{◌+◌, ◌*◌, ◌≤◌, refl, arith}
 use native.Mathlib.Nat.{mul-le-mul}
 use Rattle.members.specs.Members.{size}
 use Rattle.shares.specs.Layout.{width}
@@ -26,6 +26,7 @@ invariant_of-result c =
       d_high = c.requires.3;
       members = c.size-n.ensures;
       share = omega (arith, c.size-n.ensures);
+      parts = refl;
       few = few;
       narrow = narrow;
       fit = mul-le-mul {n₂ = 31} {m₂ = 157} few narrow;
