@@ -6,11 +6,11 @@ ghost use Rattle.lists.specs.Tabulate.{tab};
 ghost use Rattle.mac.specs.Tag.{tag as tag_of};
 
 // One pass over the words.
-#[tactic(auto, using(crate::proofs::Tags::tag_from))]
+#[tactic(auto, unfolding(crate::specs::Tag::tag, polynomial::specs::Polynomial::value, polynomial::specs::Polynomial::eval))]
 pub fn tag(alpha: u16, beta: u16, words: &[u16]) -> u16
     ensures { result ≡ tag_of alpha beta words.now }
 {
-    field::add_product(beta, alpha, polynomial::evaluate(words, alpha))
+    polynomial::evaluate_with(beta, words, alpha)
 }
 
 // The tag of a first word and the rest, which need not stand together: the first has power 1, and the rest begin at power 2.

@@ -10,7 +10,7 @@ ghost use Rattle.members.specs.Internal.Lowest.{Lowest};
 pub fn threshold(t: usize) -> bool
     ensures { result ≡ is_threshold t }
 {
-    (1..=15).contains(&t)
+    lists::within(1, 15, t)
 }
 
 // How many members a station has.

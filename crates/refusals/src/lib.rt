@@ -6,29 +6,29 @@ ghost use Rattle.refusals.specs.Refusals.{number};
 
 #[derive(Clone, Copy, Debug, PartialEq, Eq)]
 pub enum Refusal {
-    BadThreshold,
-    BadSecretLength,
-    BadRandomLength,
-    BadSharesLength,
-    BadSecretWord,
-    BadRandomWord,
-    BadRowsLength,
-    BadInputLength,
-    MemberBeyondN,
-    BadQuorum,
-    QuorumNotMet,
-    NoSurvivors,
-    TooFewAgree,
-    SetTooSmall,
-    BadValue,
-    BadCoefficientsLength,
-    TextTooLong,
-    BadFirstLine,
-    BadLine,
-    BadLineMember,
-    BadBufferLength,
-    TextBufferTooShort,
-    BadDay,
+    BadThreshold = 1,
+    BadSecretLength = 2,
+    BadRandomLength = 3,
+    BadSharesLength = 4,
+    BadSecretWord = 5,
+    BadRandomWord = 6,
+    BadRowsLength = 10,
+    BadInputLength = 11,
+    MemberBeyondN = 12,
+    BadQuorum = 13,
+    QuorumNotMet = 14,
+    NoSurvivors = 15,
+    TooFewAgree = 16,
+    SetTooSmall = 17,
+    BadValue = 18,
+    BadCoefficientsLength = 19,
+    TextTooLong = 21,
+    BadFirstLine = 22,
+    BadLine = 23,
+    BadLineMember = 24,
+    BadBufferLength = 25,
+    TextBufferTooShort = 31,
+    BadDay = 32,
 }
 
 impl From<Refusal> for u16 {
@@ -36,31 +36,7 @@ impl From<Refusal> for u16 {
     fn from(refusal: Refusal) -> u16
         ensures { result ≡ number refusal }
     {
-        match refusal {
-            Refusal::BadThreshold => 1,
-            Refusal::BadSecretLength => 2,
-            Refusal::BadRandomLength => 3,
-            Refusal::BadSharesLength => 4,
-            Refusal::BadSecretWord => 5,
-            Refusal::BadRandomWord => 6,
-            Refusal::BadRowsLength => 10,
-            Refusal::BadInputLength => 11,
-            Refusal::MemberBeyondN => 12,
-            Refusal::BadQuorum => 13,
-            Refusal::QuorumNotMet => 14,
-            Refusal::NoSurvivors => 15,
-            Refusal::TooFewAgree => 16,
-            Refusal::SetTooSmall => 17,
-            Refusal::BadValue => 18,
-            Refusal::BadCoefficientsLength => 19,
-            Refusal::TextTooLong => 21,
-            Refusal::BadFirstLine => 22,
-            Refusal::BadLine => 23,
-            Refusal::BadLineMember => 24,
-            Refusal::BadBufferLength => 25,
-            Refusal::TextBufferTooShort => 31,
-            Refusal::BadDay => 32,
-        }
+        refusal as u16
     }
 }
 
