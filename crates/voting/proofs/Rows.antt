@@ -19,23 +19,18 @@ use Rattle.field.specs.Field.{is_field_word}
 use Rattle.mac.specs.Tag.{tag}
 use Rattle.members.specs.Members.{size, has, set_of, adding}
 use Rattle.members.proofs.Words.{set_of_none, set_of_step}
-use Rattle.shares.specs.Layout.{tagged, width, word, share_words, tag_word_at, key_α, key_β}
-use Rattle.shares.specs.declared.Shape.{Shape}
-use Rattle.shares.proofs.Shapes.{station}
+use Rattle.shares.specs.Layout.{width, word, tag_word_at}
 use Rattle.voting.specs.declared.Vote as code
 use Rattle.voting.specs.declared.Vote.TheVariants.{Accepted, Mismatched, Unread}
 use Rattle.voting.specs.declared.Pairs as code_pairs
+use Rattle.voting.specs.declared.Ballot.{Ballot}
 use Rattle.voting.specs.declared.Counted.{Counted}
 use Rattle.voting.specs.Votes.{field_share, tag_holds, Vote, accepted, mismatched, unread, vote, is_of, accepts, vote_rows, vote_table, Pairs, no_pairs, count_of, kinds, pairs}
 use Rattle.voting.specs.Answer.{vote_of, pairs_of}
 use Rattle.voting.specs.Internal.Counting.{together, voted, Tests, Counts}
-use Rattle.voting.specs.Internal.Expected.{Expected}
+use Rattle.voting.specs.Internal.Ballots.{key_of_α, key_of_β, tagged_of, holds, row_of, votes_on, Row, Expected}
 use Rattle.voting.proofs.Counts.{kinds-append, total, kinds_total}
 use Rattle.voting.proofs.Meaning.{accepts_is}
-
--- a station has few members
-pub few : (s : Shape) → s.n ≤ 31
-few s = (station s).few
 
 -- the test of a whole share
 pub share_tested : (t d : ℕ) (words : List ℕ) (i : ℕ) (share : List ℕ) → share ≡ tab (width t d) (word t d words i) → each is_field_word share ≡ field_share t d words i
@@ -46,31 +41,21 @@ share_tested t d words i share e = ap (each is_field_word) e ∙ each-tab is_fie
 pub second_test : (a b : Bool) → a ≡ true → (c : Bool) → c ≡ b → c ≡ (a && b)
 second_test a b h c e = rw h e
 
--- one member more of a set of those that pass a test: it passes, or not
-module _ (p : ℕ → Bool) (i set now : ℕ) (less : i < 32) (so_far : set ≡ set_of i p) where
-  pub taken_with : p i ≡ true → now ≡ adding set i → now ≡ set_of (i + 1) p
-  taken_with e h = h ∙ ap (λ (m : ℕ). adding m i) so_far ∙ set_of_step i p true less (sym e)
-
-  pub taken_without : p i ≡ false → now ≡ set → now ≡ set_of (i + 1) p
-  taken_without e h = h ∙ so_far ∙ set_of_step i p false less (sym e)
-
 -- the tags that member i has to have, from everybody's keys
-pub tags_expected : (s : Shape) (day : ℕ) (words : List ℕ) (i : ℕ) (alphas betas tags : List ℕ) → take s.n alphas ≡ tab s.n (λ k. key_α s.t s.d words k i)
-    → take s.n betas ≡ tab s.n (λ k. key_β s.t s.d words k i)
-    → tags ≡ tab 32 (λ j. tag (get_or alphas j 0) (get_or betas j 0) (tagged day (share_words s.t s.d words i))) → Expected s day words i tags
-tags_expected s day words i alphas betas tags a b e =
+pub tags_expected : (b : Ballot) (i : ℕ) (alphas betas tags : List ℕ) → take b.shares.shape.n alphas ≡ tab b.shares.shape.n (λ k. key_of_α b k i)
+    → take b.shares.shape.n betas ≡ tab b.shares.shape.n (λ k. key_of_β b k i)
+    → tags ≡ tab 32 (λ j. tag (get_or alphas j 0) (get_or betas j 0) (tagged_of b i)) → Expected b i tags
+tags_expected b i alphas betas tags a z e =
     record {
       tag_of_place =
           λ j l.
           ap (λ (m : List ℕ). get_or m j 0) e
-          ∙ get_or-tab 32 (λ j. tag (get_or alphas j 0) (get_or betas j 0) (tagged day (share_words s.t s.d words i))) j 0 (omega (arith, few s))
-          ∙ ap₂ (λ (α β : ℕ). tag α β (tagged day (share_words s.t s.d words i)))
-          (front_of alphas (λ k. key_α s.t s.d words k i) j l a)
-          (front_of betas (λ k. key_β s.t s.d words k i) j l b);
+          ∙ get_or-tab 32 (λ j. tag (get_or alphas j 0) (get_or betas j 0) (tagged_of b i)) j 0 (omega (arith, b.shares.shape.few))
+          ∙ ap₂ (λ (α β : ℕ). tag α β (tagged_of b i)) (front_of alphas (λ k. key_of_α b k i) j l a) (front_of betas (λ k. key_of_β b k i) j l z);
     }
   where
-    front_of : (l : List ℕ) (f : ℕ → ℕ) (j : ℕ) → j < s.n → take s.n l ≡ tab s.n f → get_or l j 0 ≡ f j
-    front_of l f j h q = sym (get_or-take s.n l j 0 h) ∙ ap (λ (m : List ℕ). get_or m j 0) q ∙ get_or-tab s.n f j 0 h
+    front_of : (l : List ℕ) (f : ℕ → ℕ) (j : ℕ) → j < b.shares.shape.n → take b.shares.shape.n l ≡ tab b.shares.shape.n f → get_or l j 0 ≡ f j
+    front_of l f j h q = sym (get_or-take b.shares.shape.n l j 0 h) ∙ ap (λ (m : List ℕ). get_or m j 0) q ∙ get_or-tab b.shares.shape.n f j 0 h
 
 -- nobody accepts a member that is not usable
 pub empty_row : (t d day able : ℕ) (words : List ℕ) (i : ℕ) → has able i ≡ false → set_of (size t) (λ j. accepts t d day able words j i) ≡ 0
@@ -98,10 +83,10 @@ module _ (able i j : ℕ) (b : Bool) where
     tag_accepted n = sym (rw (sym ea ∙ ha, sym ev ∙ hv, sym (told (sym ea ∙ ha)) ∙ n))
 
 -- the tags that a usable member has to have tell whether its tag holds
-pub told_by_tags : (s : Shape) (day : ℕ) (words tags : List ℕ) (i j : ℕ) (h : Bool) → j < s.n → Expected s day words i tags
-    → h ≡ eqb (tag_word_at s.t s.d words i j) (get_or tags j 0) → h ≡ tag_holds s.t s.d day words i j
+pub told_by_tags : (b : Ballot) (tags : List ℕ) (i j : ℕ) (h : Bool) → j < b.shares.shape.n → Expected b i tags
+    → h ≡ eqb (tag_word_at b.shares.shape.t b.shares.shape.d b.shares.words.now i j) (get_or tags j 0) → h ≡ holds b i j
 unfolding tag_holds
-told_by_tags s day words tags i j h l x e = e ∙ ap (eqb (tag_word_at s.t s.d words i j)) (x.tag_of_place j l)
+told_by_tags b tags i j h l x e = e ∙ ap (eqb (tag_word_at b.shares.shape.t b.shares.shape.d b.shares.words.now i j)) (x.tag_of_place j l)
 
 -- no votes are counted
 module _ (able i : ℕ) (tells : ℕ → Bool → Type 0) where
@@ -131,16 +116,20 @@ module _ (able i : ℕ) (tells : ℕ → Bool → Type 0) where
 pub total_more : (p r : code_pairs.Pairs) (v : code.Vote) → pairs_of r ≡ together (pairs_of p) (kinds (vote_of v ∷ [])) → total (pairs_of r) ≡ total (pairs_of p) + 1
 total_more p r v e = omega (arith, ap total e, kinds_total (vote_of v ∷ []))
 
--- those who accept member i, and everybody's vote on it
-abbrev pub row_of : Shape → ℕ → ℕ → List ℕ → ℕ → ℕ
-row_of s day able words i = set_of (size s.t) (λ j. accepts s.t s.d day able words j i)
+-- a row that is counted by tests which tell of a usable member whether its tags hold
+pub row_counted : (b : Ballot) (i : ℕ) (tells : ℕ → Bool → Type 0) (r : Counted) → Counts b.able i tells b.shares.shape.n r
+    → ((j : ℕ) (h : Bool) → j < b.shares.shape.n → has b.able i ≡ true → tells j h → h ≡ holds b i j) → Row b i r
+unfolding accepts vote
+row_counted b i tells r counts told =
+    let all = counts (holds b i) told in
+    record {
+      row_value = all.0 ∙ ap (λ (n : ℕ). set_of n (λ j. accepts b.shares.shape.t b.shares.shape.d b.day b.able b.shares.words.now j i)) b.shares.shape.members;
+      pairs_value = all.1 ∙ ap (λ (n : ℕ). kinds (tab n (λ j. vote b.shares.shape.t b.shares.shape.d b.day b.able b.shares.words.now j i))) b.shares.shape.members;
+    }
 
-abbrev pub votes_on : Shape → ℕ → ℕ → List ℕ → ℕ → List Vote
-votes_on s day able words i = tab (size s.t) (λ j. vote s.t s.d day able words j i)
-
-module _ (s : Shape) (day able : ℕ) (words : List ℕ) where
+module _ (b : Ballot) where
   abbrev on : ℕ → List Vote
-  on = votes_on s day able words
+  on = votes_on b
 
   -- of the first i members the votes are counted: of none
   pub filling_first : (p : code_pairs.Pairs) → pairs_of p ≡ no_pairs → pairs_of p ≡ kinds (concat (tab 0 on))
@@ -150,14 +139,15 @@ module _ (s : Shape) (day able : ℕ) (words : List ℕ) where
   module _ (p : code_pairs.Pairs) (i : ℕ) (so_far : pairs_of p ≡ kinds (concat (tab i on))) where
     module _ (q : code_pairs.Pairs) (eq : pairs_of q ≡ kinds (on i)) where
       -- there is room for the sum
-      pub filling_room : i < s.n → (p.accepted + q.accepted ≤ 65535) × (p.mismatched + q.mismatched ≤ 65535) × (p.unread + q.unread ≤ 65535)
+      pub filling_room : i < b.shares.shape.n → (p.accepted + q.accepted ≤ 65535) × (p.mismatched + q.mismatched ≤ 65535) × (p.unread + q.unread ≤ 65535)
       filling_room less =
+          let s = b.shares.shape in
           let n : ℕ = size s.t in
-          let few' : n ≤ 31 = omega (arith, (station s).few, (station s).members) in
+          let few' : n ≤ 31 = omega (arith, s.few, s.members) in
           let e : total (pairs_of p) ≡ i * n =
-          ap total so_far ∙ kinds_total (concat (tab i on)) ∙ length-concat i n on (λ k l. length-tab n (λ j. vote s.t s.d day able words j k)) in
-          let g : total (pairs_of q) ≡ n = ap total eq ∙ kinds_total (on i) ∙ length-tab n (λ j. vote s.t s.d day able words j i) in
-          let m : i * n ≤ 31 * 31 = mul-le-mul {n₂ = 31} {m₂ = 31} (omega (arith, less, (station s).few)) few' in
+          ap total so_far ∙ kinds_total (concat (tab i on)) ∙ length-concat i n on (λ k l. length-tab n (λ j. vote s.t s.d b.day b.able b.shares.words.now j k)) in
+          let g : total (pairs_of q) ≡ n = ap total eq ∙ kinds_total (on i) ∙ length-tab n (λ j. vote s.t s.d b.day b.able b.shares.words.now j i) in
+          let m : i * n ≤ 31 * 31 = mul-le-mul {n₂ = 31} {m₂ = 31} (omega (arith, less, s.few)) few' in
           (omega (arith, e, g, m, few'), omega (arith, e, g, m, few'), omega (arith, e, g, m, few'))
 
       -- one member more
@@ -170,10 +160,11 @@ module _ (s : Shape) (day able : ℕ) (words : List ℕ) where
           ∙ ap (λ (m : ℕ). kinds (concat (tab m on))) (sym (add-one i))
 
     -- all of them
-    pub pairs_last : i ≡ s.n → pairs_of p ≡ pairs s.t s.d day able words
+    pub pairs_last : i ≡ b.shares.shape.n → pairs_of p ≡ pairs b.shares.shape.t b.shares.shape.d b.day b.able b.shares.words.now
     unfolding pairs vote_table
-    pairs_last e = so_far ∙ ap (λ (m : ℕ). kinds (concat (tab m on))) (e ∙ (station s).members)
+    pairs_last e = so_far ∙ ap (λ (m : ℕ). kinds (concat (tab m on))) (e ∙ b.shares.shape.members)
 
-  pub rows_last : (rows : List ℕ) (i : ℕ) → length rows ≡ s.n → s.n ≡ i → take i rows ≡ tab i (row_of s day able words) → rows ≡ vote_rows s.t s.d day able words
+  pub rows_last : (rows : List ℕ) (i : ℕ) → length rows ≡ b.shares.shape.n → b.shares.shape.n ≡ i → take i rows ≡ tab i (row_of b)
+      → rows ≡ vote_rows b.shares.shape.t b.shares.shape.d b.day b.able b.shares.words.now
   unfolding vote_rows
-  rows_last rows i long e h = written_last (row_of s day able words) rows s.n i long e h ∙ ap (λ (m : ℕ). tab m (row_of s day able words)) (station s).members
+  rows_last rows i long e h = written_last (row_of b) rows b.shares.shape.n i long e h ∙ ap (λ (m : ℕ). tab m (row_of b)) b.shares.shape.members

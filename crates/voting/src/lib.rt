@@ -9,7 +9,7 @@ ghost use Rattle.shares.specs.Layout.{key_α, key_β};
 ghost use Rattle.voting.specs.Votes.{field_share, usable, tag_holds, accepted, vote as vote_by, is_of, accepts, vote_rows, no_pairs, kinds, pairs as pairs_by};
 ghost use Rattle.voting.specs.Answer.{vote_of, pairs_of};
 ghost use Rattle.voting.specs.Internal.Counting.{together, Tests, Counts};
-ghost use Rattle.voting.specs.Internal.Expected.{Expected};
+ghost use Rattle.voting.specs.Internal.Ballots.{holds, Row, Expected};
 
 use shares::Shares;
 
@@ -29,7 +29,7 @@ pub struct Pairs {
     pub unread: u16,
 }
 
-// No votes of any kind.
+// No votes of any kind, as the definition's `no_pairs`. A derived `Default` has no numbers that a must-fail edit could spoil.
 pub fn no_pairs() -> Pairs
     ensures { pairs_of result ≡ no_pairs }
 {
@@ -116,117 +116,118 @@ fn is_usable(shares: &Shares, present: u32, i: usize) -> bool
 pub fn usable_members(shares: &Shares, present: u32) -> u32
     ensures { result ≡ usable shares.now.shape.t shares.now.shape.d present shares.now.words.now }
 {
-    let mut set: u32 = 0;
-    for i in 0..shares.shape.n {
-        if is_usable(shares, present, i) {
-            set = members::with(set, i);
+    members::those(shares.shape.n, |i| is_usable(shares, present, i))
+}
+
+// The shares of a day and the usable members, who vote.
+#[derive(Clone, Copy)]
+struct Ballot<'a> {
+    shares: Shares<'a>,
+    day: u16,
+    able: u32,
+}
+
+impl Ballot<'_> {
+    // What tag(i,j) has to be, at place j: the tag of the day and i's share words under key(j,i).
+    fn expect(&self, i: usize, tags: &mut [u16; 32])
+        requires { i < self.now.shares.shape.n }
+        ensures { Expected self.now i tags.new }
+    {
+        let mut alphas = [0u16; 32];
+        let mut betas = [0u16; 32];
+        shares::gather_keys(
+            self.shares.shape.n,
+            |k| self.shares.key(k, i),
+            &mut alphas,
+            &mut betas,
+        );
+        mac::tags_with_first(&alphas, &betas, self.day, self.shares.share_words(i), tags);
+    }
+
+    // The same if member i is usable: else nobody looks.
+    fn expect_usable(&self, i: usize, tags: &mut [u16; 32])
+        requires { i < self.now.shares.shape.n }
+        ensures { has self.now.able i ≡ true → Expected self.now i tags.new }
+    {
+        if !members::has(self.able, i) {
+            return;
         }
+        self.expect(i, tags);
     }
-    set
-}
 
-// What tag(i,j) has to be, at place j: the tag of the day and i's share words under key(j,i).
-fn expect(shares: &Shares, day: u16, i: usize, tags: &mut [u16; 32])
-    requires { i < shares.now.shape.n }
-    ensures { Expected shares.now.shape day shares.now.words.now i tags.new }
-{
-    let mut alphas = [0u16; 32];
-    let mut betas = [0u16; 32];
-    shares::gather_keys(
-        shares.shape.n,
-        |k| shares.key(k, i),
-        &mut alphas,
-        &mut betas,
-    );
-    mac::tags_with_first(&alphas, &betas, day, shares.share_words(i), tags);
-}
-
-// The same if member i is usable: else nobody looks.
-fn expect_usable(shares: &Shares, day: u16, able: u32, i: usize, tags: &mut [u16; 32])
-    requires { i < shares.now.shape.n }
-    ensures { has able i ≡ true → Expected shares.now.shape day shares.now.words.now i tags.new }
-{
-    if !members::has(able, i) {
-        return;
+    // tag(i,j) is that of the day and i's share words under key(j,i).
+    #[tactic(auto, unfolding(crate::specs::Votes::tag_holds))]
+    fn tag_holds(&self, i: usize, j: usize) -> bool
+        requires { (i < self.now.shares.shape.n) × (j < self.now.shares.shape.n) }
+        ensures { result ≡ holds self.now i j }
+    {
+        let key = self.shares.key(j, i);
+        let words = self.shares.share_words(i);
+        let expected = mac::tag_with_first(key.alpha, key.beta, self.day, words);
+        self.shares.tag(i, j) == expected
     }
-    expect(shares, day, i, tags);
-}
 
-// tag(i,j) is that of the day and i's share words under key(j,i).
-#[tactic(auto, unfolding(crate::specs::Votes::tag_holds))]
-fn tag_holds(shares: &Shares, day: u16, i: usize, j: usize) -> bool
-    requires { (i < shares.now.shape.n) × (j < shares.now.shape.n) }
-    ensures { result ≡ tag_holds shares.now.shape.t shares.now.shape.d day shares.now.words.now i j }
-{
-    let key = shares.key(j, i);
-    let expected = mac::tag_with_first(key.alpha, key.beta, day, shares.share_words(i));
-    shares.tag(i, j) == expected
-}
-
-// The vote of member j on member i, where `holds` tells whether i's tag for a member is the right one. It is asked only if both are usable.
-fn test_tag<F: Fn(usize) -> bool>(able: u32, i: usize, j: usize, holds: &F) -> Vote
-    requires { F.pre holds.now j }
-    ensures { Tests able i j (F.post holds.now j) result }
-{
-    if !members::has(able, i) {
-        return Vote::Unread; // the member is not usable
+    // The vote of member j on member i, where `holds` tells whether i's tag for a member is the right one. It is asked only if both are usable.
+    fn test_tag<F: Fn(usize) -> bool>(&self, i: usize, j: usize, holds: &F) -> Vote
+        requires { F.pre holds.now j }
+        ensures { Tests self.now.able i j (F.post holds.now j) result }
+    {
+        if !members::has(self.able, i) {
+            return Vote::Unread; // the member is not usable
+        }
+        if !members::has(self.able, j) {
+            return Vote::Unread; // the voter is not usable
+        }
+        if !holds(j) {
+            return Vote::Mismatched;
+        }
+        Vote::Accepted
     }
-    if !members::has(able, j) {
-        return Vote::Unread; // the voter is not usable
-    }
-    if !holds(j) {
-        return Vote::Mismatched;
-    }
-    Vote::Accepted
-}
 
-// The votes of n members on member i, where `holds` tells whether i's tag for a member is the right one.
-fn row_by<F: Fn(usize) -> bool>(n: usize, able: u32, i: usize, holds: F) -> Counted
-    requires few { n ≤ 31 }
-    requires can { (j : ℕ) → j < n → F.pre holds j }
-    ensures { Counts able i (F.post holds) n result }
-{
-    let mut at = Counted {
-        row: 0,
-        pairs: no_pairs(),
-    };
-    for j in 0..n {
-        at = at.with(test_tag(able, i, j, &holds), j);
+    // Everybody's votes on member i, where `holds` tells whether i's tag for a member is the right one.
+    fn row_by<F: Fn(usize) -> bool>(&self, i: usize, holds: F) -> Counted
+        requires { (j : ℕ) → j < self.now.shares.shape.n → F.pre holds j }
+        ensures { Counts self.now.able i (F.post holds) self.now.shares.shape.n result }
+    {
+        let mut at = Counted {
+            row: 0,
+            pairs: no_pairs(),
+        };
+        for j in 0..self.shares.shape.n {
+            at = at.with(self.test_tag(i, j, &holds), j);
+        }
+        at
     }
-    at
-}
 
-// Everybody's votes on member i, one tag after the other.
-fn row_singly(shares: &Shares, day: u16, able: u32, i: usize) -> Counted
-    requires { i < shares.now.shape.n }
-    ensures row_value { result.row ≡ set_of (size shares.now.shape.t) (λ j. accepts shares.now.shape.t shares.now.shape.d day able shares.now.words.now j i) }
-    ensures pairs_value { pairs_of result.pairs ≡ kinds (tab (size shares.now.shape.t) (λ j. vote_by shares.now.shape.t shares.now.shape.d day able shares.now.words.now j i)) }
-{
-    let shares = *shares; // a copy of its own, which the compiler keeps in registers
-    row_by(shares.shape.n, able, i, |j| tag_holds(&shares, day, i, j))
-}
-
-// Everybody's votes on member i, all tags at once.
-fn row_at_once(shares: &Shares, day: u16, able: u32, i: usize) -> Counted
-    requires { i < shares.now.shape.n }
-    ensures row_value { result.row ≡ set_of (size shares.now.shape.t) (λ j. accepts shares.now.shape.t shares.now.shape.d day able shares.now.words.now j i) }
-    ensures pairs_value { pairs_of result.pairs ≡ kinds (tab (size shares.now.shape.t) (λ j. vote_by shares.now.shape.t shares.now.shape.d day able shares.now.words.now j i)) }
-{
-    let mut tags = [0u16; 32];
-    expect_usable(shares, day, able, i, &mut tags);
-    row_by(shares.shape.n, able, i, |j| shares.tag(i, j) == tags[j])
-}
-
-// Everybody's votes on member i, by whichever way is quicker.
-fn row(shares: &Shares, day: u16, able: u32, i: usize) -> Counted
-    requires { i < shares.now.shape.n }
-    ensures row_value { result.row ≡ set_of (size shares.now.shape.t) (λ j. accepts shares.now.shape.t shares.now.shape.d day able shares.now.words.now j i) }
-    ensures pairs_value { pairs_of result.pairs ≡ kinds (tab (size shares.now.shape.t) (λ j. vote_by shares.now.shape.t shares.now.shape.d day able shares.now.words.now j i)) }
-{
-    if shares::is_large(shares.shape.t, shares.shape.d) {
-        return row_at_once(shares, day, able, i);
+    // Everybody's votes on member i, one tag after the other.
+    fn row_singly(&self, i: usize) -> Counted
+        requires { i < self.now.shares.shape.n }
+        ensures { Row self.now i result }
+    {
+        let ballot = *self; // a copy of its own, which the compiler keeps in registers: small openings took 1.2 times as long without it
+        ballot.row_by(i, |j| ballot.tag_holds(i, j))
     }
-    row_singly(shares, day, able, i)
+
+    // Everybody's votes on member i, all tags at once.
+    fn row_at_once(&self, i: usize) -> Counted
+        requires { i < self.now.shares.shape.n }
+        ensures { Row self.now i result }
+    {
+        let mut tags = [0u16; 32];
+        self.expect_usable(i, &mut tags);
+        self.row_by(i, |j| self.shares.tag(i, j) == tags[j])
+    }
+
+    // Everybody's votes on member i, by whichever way is quicker.
+    fn row(&self, i: usize) -> Counted
+        requires { i < self.now.shares.shape.n }
+        ensures { Row self.now i result }
+    {
+        if shares::is_large(self.shares.shape.t, self.shares.shape.d) {
+            return self.row_at_once(i);
+        }
+        self.row_singly(i)
+    }
 }
 
 // The vote rows of all members, and how many pairs fell to each kind of vote.
@@ -235,9 +236,14 @@ pub fn fill_rows(shares: &Shares, day: u16, able: u32, rows: &mut [u32]) -> Pair
     ensures rows_after { rows.new ≡ vote_rows shares.now.shape.t shares.now.shape.d day able shares.now.words.now }
     ensures result_value { pairs_of result ≡ pairs_by shares.now.shape.t shares.now.shape.d day able shares.now.words.now }
 {
+    let ballot = Ballot {
+        shares: *shares,
+        day,
+        able,
+    };
     let mut pairs = no_pairs();
     for (i, entry) in rows.iter_mut().enumerate() {
-        let at = row(shares, day, able, i);
+        let at = ballot.row(i);
         *entry = at.row;
         pairs = pairs.and(at.pairs);
     }

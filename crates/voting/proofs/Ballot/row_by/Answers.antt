@@ -1,9 +1,9 @@
--- `voting::row_by`: one vote more.
+-- `voting::Ballot::row_by`: one vote more.
 -- Assumes nothing.
 use Rattle.std.proofs.Common.{◌+◌, ◌∙◌, ap, arith}
 use Rattle.voting.proofs.Counts.{total}
 use Rattle.voting.proofs.Rows.{counts_none, counts_more, total_more}
-use Rattle.voting.proofs.row_by.Goals as goal
+use Rattle.voting.proofs.Ballot.row_by.Goals as goal
 
 pub loop-j-init : goal.loop-j-init
 loop-j-init g c = (ap total c.no_pairs.ensures, counts_none _ _ _ _ c.no_pairs.ensures)

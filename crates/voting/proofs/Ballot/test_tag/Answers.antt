@@ -1,7 +1,7 @@
--- `voting::test_tag`: its three tests are those of the definition.
+-- `voting::Ballot::test_tag`: its three tests are those of the definition.
 -- Assumes nothing.
 use Rattle.voting.proofs.Rows.{unusable_member, unusable_voter, tag_mismatched, tag_accepted}
-use Rattle.voting.proofs.test_tag.Goals as goal
+use Rattle.voting.proofs.Ballot.test_tag.Goals as goal
 
 pub returns-then-not-has : goal.returns-then-not-has
 returns-then-not-has g c = λ b told. unusable_member _ _ _ b _ c.has.ensures c.if-not-has.true
