@@ -1,9 +1,9 @@
 // Sets of members as masks of 32 bits: member i, counted from 0, has bit i.
 #![tactic(auto, using(crate::proofs::Words::words))]
 
-ghost use Rattle.std.specs.Prelude.{◌≡◌, suc, ◌<◌, ◌≤◌, ◌^◌, length};
+ghost use Rattle.std.specs.Prelude.{◌≡◌, ℕ, Bool, suc, ◌<◌, ◌≤◌, ◌^◌, length};
 ghost use Rattle.lists.specs.Tabulate.{tab};
-ghost use Rattle.members.specs.Members.{is_threshold, size, has, card, adding, striking, first_of, common};
+ghost use Rattle.members.specs.Members.{is_threshold, size, has, set_of, card, adding, striking, first_of, common};
 ghost use Rattle.members.specs.Internal.Lowest.{Lowest};
 
 // A station's threshold is 1 to 15.
@@ -89,6 +89,21 @@ pub fn first(n: usize) -> u32
         return u32::MAX;
     }
     only(n) - 1
+}
+
+// The members below n that pass a test.
+pub fn those<F: Fn(usize) -> bool>(n: usize, test: F) -> u32
+    requires few { n ≤ 32 }
+    requires callable { (i : ℕ) → i < n → F.pre test i }
+    ensures { (p : ℕ → Bool) → ((i : ℕ) (b : Bool) → i < n → F.post test i b → b ≡ p i) → result ≡ set_of n p }
+{
+    let mut set = 0;
+    for i in 0..n {
+        if test(i) {
+            set = with(set, i);
+        }
+    }
+    set
 }
 
 // How many members the set has.

@@ -34,6 +34,10 @@ value-cons c cs x =
     (same_trans (value_same (c ∷ cs) x)
     (same_sym (same_trans (sum_same c (product x (value cs x))) (same_refl ⊕ same_trans (product_same x (value cs x)) (times x (value_same cs x))))))
 
+-- the same from the value of the others and the step that the code takes
+pub value_with : (c v r : ℕ) (cs : List ℕ) (x : ℕ) → r ≡ sum c (product x v) → v ≡ value cs x → r ≡ value (c ∷ cs) x
+value_with c v r cs x er ev = er ∙ ap (λ (w : ℕ). sum c (product x w)) ev ∙ sym (value-cons c cs x)
+
 -- four steps at once, with the powers of x taken modulo p
 pub value_four : (c₀ c₁ c₂ c₃ : ℕ) (cs : List ℕ) (x : ℕ)
     → value (c₀ ∷ c₁ ∷ c₂ ∷ c₃ ∷ cs) x

@@ -1,7 +1,7 @@
 // Polynomials over the field, as words for the coefficients, power 0 first: evaluation and interpolation.
 #![tactic(auto)]
 
-ghost use Rattle.std.specs.Prelude.{◌≡◌, suc, ◌+◌, ◌*◌, ◌≤◌, ◌<◌, length, get_or};
+ghost use Rattle.std.specs.Prelude.{◌≡◌, ◌∷◌, suc, ◌+◌, ◌*◌, ◌≤◌, ◌<◌, length, get_or};
 ghost use Rattle.field.specs.Internal.Dot.{dot};
 ghost use Rattle.polynomial.specs.Polynomial.{value, interpolated};
 ghost use Rattle.polynomial.specs.Internal.Newton.{slopes_from, divided, linear_from, expanded};
@@ -96,6 +96,14 @@ pub fn evaluate(coefficients: &[u16], x: u16) -> u16
     }
     let mut powers = [0u16; 9];
     evaluate_long(coefficients, x, &mut powers)
+}
+
+// The value at x of the polynomial with this constant coefficient and the others.
+#[tactic(auto, using(crate::proofs::Evaluation::value_with))]
+pub fn evaluate_with(constant: u16, others: &[u16], x: u16) -> u16
+    ensures { result ≡ value (constant ∷ others.now) x }
+{
+    field::add_product(constant, x, evaluate(others, x))
 }
 
 // The value of a constant coefficient and others, by one sum of products with the powers of the point.
