@@ -1,15 +1,14 @@
 -- Laws of a station's shape.
 -- Assumes nothing.
-use mathlib.Core.Path.{◌≡◌, sym, subst}
+use mathlib.Core.Path.{◌≡◌}
 use mathlib.Core.Bool.{true}
 use Prim.Native.Nat.{ℕ, ◌+◌, ◌*◌, ◌≤◌, ◌<◌}
-use native.Mathlib.Omega.{arith}
 use Rattle.lists.proofs.Checks.{within_intro, within_low, within_high}
-use Rattle.members.specs.Members.{is_threshold, size}
-use Rattle.shares.specs.Layout.{is_length, width}
+use Rattle.members.specs.Members.{is_threshold}
+use Rattle.shares.specs.Layout.{is_length}
 use Rattle.shares.specs.Internal.Shape.{InRange, Station}
 use Rattle.shares.specs.declared.Shape.{Shape}
-use Rattle.shares.proofs.Places.{row_inside, all_fit}
+use Rattle.shares.proofs.Places.{row_inside}
 
 -- what the checks of t and d show
 pub in_range : (t d : ℕ) → is_threshold t ≡ true → is_length d ≡ true → InRange t d
@@ -20,16 +19,15 @@ is_a_threshold t d r = within_intro 1 15 t r.t_low r.t_high
 
 -- a shape is that of a station
 pub station : (s : Shape) → Station s
-unfolding size width
 station s =
     record {
       range = record { t_low = s.t_low; t_high = s.t_high; d_low = s.d_low; d_high = s.d_high };
       members = s.members;
       share = s.share;
-      parts = omega (arith, s.members, s.share);
-      few = omega (arith, s.members, s.t_high);
-      narrow = omega (arith, s.share, s.t_high, s.d_high);
-      all_fit = subst (λ (n : ℕ). n * s.width ≤ 4867) (sym s.members) (subst (λ (w : ℕ). size s.t * w ≤ 4867) (sym s.share) (all_fit s.t s.d s.t_high s.d_high));
+      parts = s.parts;
+      few = s.few;
+      narrow = s.narrow;
+      all_fit = s.fit;
     }
 
 -- one of the shares is among all of them

@@ -1,7 +1,7 @@
 // A station's shape, the words of its members' shares, and its days.
 #![tactic(auto)]
 
-ghost use Rattle.std.specs.Prelude.{◌≡◌, ℕ, ◌*◌, ◌≤◌, ◌<◌, length, take};
+ghost use Rattle.std.specs.Prelude.{◌≡◌, ℕ, ◌+◌, ◌*◌, ◌≤◌, ◌<◌, length, take, drop};
 ghost use Rattle.lists.specs.Tabulate.{tab};
 ghost use Rattle.members.specs.Members.{size};
 ghost use Rattle.shares.specs.Layout.{is_day, width as width_of};
@@ -26,6 +26,11 @@ pub struct Shape {
     pub ghost d_high: { d ≤ 64 },
     pub ghost members: { n ≡ size t },
     pub ghost share: { width ≡ width_of t d },
+    // these four follow; they stand here so that each check of a bound finds them
+    pub ghost parts: { width ≡ d + 3 * n },
+    pub ghost few: { n ≤ 31 },
+    pub ghost narrow: { width ≤ 157 },
+    pub ghost fit: { n * width ≤ 4867 },
 }
 
 impl Shape {
@@ -59,6 +64,7 @@ pub struct Shares<'a> {
     pub ghost long: { length words.now ≡ shape.n * shape.width },
 }
 
+// Members are plain indices: each loop over 0..n has the bound already, and would have to make a value of a type of indices from it.
 impl<'a> Shares<'a> {
     ghost use Rattle.shares.specs.Layout.{share, share_word, share_words, tag_word_at, key_α, key_β};
 
@@ -114,6 +120,7 @@ impl<'a> Shares<'a> {
 }
 
 // The keys of the first n members, by whatever gives one: α at each place of one array and β at each place of the other, since lanes take each in one piece.
+// No struct of the two arrays: mac takes them one by one, so a struct would need a type of its own that its next line takes apart.
 pub fn gather_keys<F: Fn(usize) -> Key>(
     n: usize,
     key: F,
@@ -122,8 +129,9 @@ pub fn gather_keys<F: Fn(usize) -> Key>(
 )
     requires few { n ≤ 32 }
     requires callable { (k : ℕ) → k < n → F.pre key k }
-    ensures { (α β : ℕ → ℕ) → ((k : ℕ) (r : _) → k < n → F.post key k r → (r.alpha ≡ α k) × (r.beta ≡ β k))
+    ensures keys { (α β : ℕ → ℕ) → ((k : ℕ) (r : _) → k < n → F.post key k r → (r.alpha ≡ α k) × (r.beta ≡ β k))
         → (take n alphas.new ≡ tab n α) × (take n betas.new ≡ tab n β) }
+    ensures others_kept { (drop n alphas.new ≡ drop n alphas.old) × (drop n betas.new ≡ drop n betas.old) }
 {
     for k in 0..n {
         let key = key(k);
@@ -132,8 +140,8 @@ pub fn gather_keys<F: Fn(usize) -> Key>(
     }
 }
 
-// So many members and words that it is quicker to make their share words by powers and their tags under all keys at once. Both ways answer the same, and a
-// test for each is plainer than closures handed down.
+// So many members and words that it is quicker to make their share words by powers and their tags under all keys at once. Both ways answer the same. Each of
+// the three places where ways part tests this itself: a choice made once would need closures of three types, through each function in between.
 pub fn is_large(t: usize, d: usize) -> bool {
     8 <= t && 8 <= d
 }

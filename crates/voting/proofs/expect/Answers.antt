@@ -16,7 +16,7 @@ returns c =
     let alphas = c.gather_keys.new.alphas in
     let betas = c.gather_keys.new.betas in
     let (s, words) : Shape × List ℕ = (c.args.shares.now.shape, c.args.shares.now.words.now) in
-    let keys = c.gather_keys.ensures (λ k. key_α s.t s.d words k c.args.i) (λ k. key_β s.t s.d words k c.args.i) (λ k r l called. search rules) in
+    let keys = c.gather_keys.ensures.keys (λ k. key_α s.t s.d words k c.args.i) (λ k. key_β s.t s.d words k c.args.i) (λ k r l called. search rules) in
     tags_expected s c.args.day words c.args.i alphas betas _ keys.0 keys.1
     (c.tags_with_first.ensures
     ∙ ap (λ (ws : List ℕ). tab 32 (λ j. tag (get_or alphas j 0) (get_or betas j 0) (c.args.day ∷ ws))) c.share_words.ensures)

@@ -1,6 +1,7 @@
 -- `shares::Shape::new`: n and the width are by their definitions, and small for t and d in range.
 -- Assumes nothing.
-use Rattle.std.proofs.Common.{arith}
+use Rattle.std.proofs.Common.{◌+◌, ◌*◌, ◌≤◌, refl, arith}
+use native.Mathlib.Nat.{mul-le-mul}
 use Rattle.members.specs.Members.{size}
 use Rattle.shares.specs.Layout.{width}
 use Rattle.shares.proofs.Shape.new.Goals as goal
@@ -14,8 +15,10 @@ unfolding size
 overflow_add-result c = omega (arith, c.size-n.ensures, c.requires.1, c.requires.3)
 
 pub invariant_of-result : goal.invariant_of-result
-unfolding width
+unfolding size width
 invariant_of-result c =
+    let few : c.size-n.result ≤ 31 = omega (arith, c.size-n.ensures, c.requires.1) in
+    let narrow : c.args.d + 3 * c.size-n.result ≤ 157 = omega (arith, few, c.requires.3) in
     record {
       t_low = c.requires.0;
       t_high = c.requires.1;
@@ -23,4 +26,8 @@ invariant_of-result c =
       d_high = c.requires.3;
       members = c.size-n.ensures;
       share = omega (arith, c.size-n.ensures);
+      parts = refl;
+      few = few;
+      narrow = narrow;
+      fit = mul-le-mul {n₂ = 31} {m₂ = 157} few narrow;
     }
