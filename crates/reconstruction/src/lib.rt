@@ -1,7 +1,7 @@
 // Reconstruction (document 01: opening): shares to the secret, for a day.
 #![tactic(auto)]
 
-ghost use Rattle.std.specs.Prelude.{◌≡◌, ℕ, true, ◌&&◌, suc, ◌+◌, ◌<◌, ◌≤◌, ◌^◌, eqb, ltb, length, get_or, Err};
+ghost use Rattle.std.specs.Prelude.{◌≡◌, ℕ, true, ◌&&◌, suc, ◌+◌, ◌<◌, ◌≤◌, ◌^◌, eqb, ltb, length, get_or, Err, MatchResult};
 ghost use Rattle.lists.specs.Tabulate.{tab, each};
 ghost use Rattle.polynomial.specs.Polynomial.{value, interpolate};
 ghost use Rattle.refusals.specs.Refusals.{number};
@@ -12,7 +12,7 @@ ghost use Rattle.decoding.specs.Decoding.{need, find, decoded_from};
 ghost use Rattle.reconstruction.specs.Answer.{answer_of, answered_of};
 ghost use Rattle.reconstruction.specs.Reconstruction.{unopened, is_quorum, required, turned_away, reconstruct as reconstruct_of};
 ghost use Rattle.parity.specs.Internal.Looking.{with_values};
-ghost use Rattle.reconstruction.specs.Internal.Steps.{Voted, Decodable, Begun, Came, quickly, by_words, by_votes, by_shares};
+ghost use Rattle.reconstruction.specs.Internal.Steps.{Voted, Decodable, Begun, Came, quickly, by_words, by_votes, by_shares, Accepted};
 
 use lagrange::Matrix;
 use refusals::Refusal;
@@ -322,6 +322,39 @@ fn open_shares(
     }
 }
 
+// The checks before the votes, in their order: the shape of the shares, or the first refusal.
+fn check(
+    t: usize,
+    day: u16,
+    present: u32,
+    quorum: u16,
+    shares: &[u16],
+    d: usize,
+) -> Result<Shape, Refusal>
+    ensures { MatchResult result (λ s. Accepted t d day present quorum shares.now s) (λ refusal. reconstruct_of t d day present quorum shares.now ≡ turned_away d (number refusal)) }
+{
+    if !members::threshold(t) {
+        return Err(Refusal::BadThreshold);
+    }
+    if !lists::within(1, 64, d) {
+        return Err(Refusal::BadSecretLength);
+    }
+    if !shares::is_day(day) {
+        return Err(Refusal::BadDay);
+    }
+    let shape = Shape::new(t, d);
+    if shares.len() != shape.n * shape.width {
+        return Err(Refusal::BadInputLength);
+    }
+    if members::first(shape.n) < present {
+        return Err(Refusal::MemberBeyondN);
+    }
+    if !is_quorum(shape, quorum) {
+        return Err(Refusal::BadQuorum);
+    }
+    Ok(shape)
+}
+
 // A refusal before the votes: nothing is counted.
 fn turn_away(secret: &mut [u16], refusal: Refusal) -> Reconstructed
     ensures { answered_of result secret.new ≡ turned_away (length secret.old) (number refusal) }
@@ -343,29 +376,14 @@ pub fn reconstruct(
 ) -> Reconstructed
     ensures { answered_of result secret.new ≡ reconstruct_of t (length secret.old) day present quorum shares.now }
 {
-    let d = secret.len();
-    if !members::threshold(t) {
-        return turn_away(secret, Refusal::BadThreshold);
+    match check(t, day, present, quorum, shares, secret.len()) {
+        Ok(shape) => {
+            let shares = Shares {
+                shape,
+                words: shares,
+            };
+            open_shares(&shares, day, present, quorum, secret)
+        }
+        Err(refusal) => turn_away(secret, refusal),
     }
-    if !lists::within(1, 64, d) {
-        return turn_away(secret, Refusal::BadSecretLength);
-    }
-    if !shares::is_day(day) {
-        return turn_away(secret, Refusal::BadDay);
-    }
-    let shape = Shape::new(t, d);
-    if shares.len() != shape.n * shape.width {
-        return turn_away(secret, Refusal::BadInputLength);
-    }
-    if members::first(shape.n) < present {
-        return turn_away(secret, Refusal::MemberBeyondN);
-    }
-    if !is_quorum(shape, quorum) {
-        return turn_away(secret, Refusal::BadQuorum);
-    }
-    let shares = Shares {
-        shape,
-        words: shares,
-    };
-    open_shares(&shares, day, present, quorum, secret)
 }

@@ -1,6 +1,6 @@
 -- What votes have to be for the second half of opening, what the survivors have to be before their words are opened, and what each comes to.
 -- Assumes nothing.
-use Rattle.std.specs.Prelude.{ℕ, suc, ◌≤◌, ◌<◌, ◌^◌, ◌≡◌, true, cond, List, [], ◌∷◌, eqb, length, get_or, Option, MatchOption}
+use Rattle.std.specs.Prelude.{ℕ, suc, ◌*◌, ◌≤◌, ◌<◌, ◌^◌, ◌≡◌, true, cond, List, [], ◌∷◌, eqb, length, get_or, Option, MatchOption}
 use Rattle.std.proofs.Math.Option.{none, some}
 use Rattle.lists.specs.Tabulate.{each}
 use Rattle.field.specs.Field.{prime}
@@ -12,7 +12,7 @@ use Rattle.parity.specs.Internal.Looking.{looked}
 use Rattle.voting.specs.Votes.{usable, vote_rows, pairs}
 use Rattle.decoding.specs.Decoding.{find}
 use Rattle.reconstruction.specs.declared.Word.{Word}
-use Rattle.reconstruction.specs.Reconstruction.{Opened, opened_from, finish, Answered}
+use Rattle.reconstruction.specs.Reconstruction.{Opened, opened_from, finish, Answered, reconstruct}
 
 -- votes from anywhere: a row for each of n members, and field words as share words of every member that has a vote
 pub record Voted (s : Shape) (able : ℕ) (rows words : List ℕ) : Type 0 where
@@ -69,3 +69,9 @@ abbrev pub by_shares : Shape → ℕ → ℕ → ℕ → List ℕ → Answered
 by_shares s day present quorum words =
     let able : ℕ = usable s.t s.d present words in
     record { opened = by_votes s quorum able (vote_rows s.t s.d day able words) words; pairs = pairs s.t s.d day able words }
+
+-- an input that passes all checks before the votes: the shape is that of t and d, and the shares are as long as it says
+pub record Accepted (t d day present quorum : ℕ) (words : List ℕ) (s : Shape) : Type 0 where
+  pub of_d : s.d ≡ d
+  pub long : length words ≡ s.n * s.width
+  pub opens : reconstruct t d day present quorum words ≡ by_shares s day present quorum words
