@@ -25,13 +25,10 @@ fn votes_left(row: u32, i: usize, votes: u32) -> u32
     requires { cond (has row i) 1 0 ≤ votes }
     ensures { result ≡ votes - cond (has row i) 1 0 }
 {
-    if members::has(row, i) {
-        return votes - 1;
-    }
-    votes
+    votes - u32::from(members::has(row, i))
 }
 
-// The first member of the set that is short of the votes needed; None: nobody is.
+// The first member of the set that is short of the votes needed; None: nobody is. A mask is no slice to iterate: its lowest member is looked at, and left out.
 fn next_short(need: usize, set: u32, counts: &[u32]) -> Option<usize>
     requires { set < 2 ^ length counts.now }
     ensures { FirstShort need set counts.now result }

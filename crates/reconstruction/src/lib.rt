@@ -26,7 +26,7 @@ pub struct Opened {
     pub agreeing: u32,
 }
 
-// Why nothing is opened, and the survivors if too few of them agree.
+// Why nothing is opened, and the survivors: 0 but for 16. An enum of the two cases would need a match wherever number and survivors are handed on.
 #[derive(Clone, Copy)]
 pub struct Unopened {
     pub refusal: Refusal,
@@ -66,7 +66,8 @@ fn both(a: u32, b: u32) -> u32
     a & b
 }
 
-// What a word comes to, if it has a polynomial: whether it was worked out anew, in full; who meets its polynomial, and the value at 0.
+// What a word comes to, if it has a polynomial: whether it was worked out anew, in full; who meets its polynomial, and the value at 0. Both ways give the
+// last two, which are used the same: an enum of the two ways would be matched only to take the same fields out of each.
 #[derive(Clone, Copy)]
 struct Word {
     anew: bool,
@@ -74,12 +75,12 @@ struct Word {
     value: u16,
 }
 
-// A station's shares, and the survivors of the votes, whose words are opened.
+// A station's shares, and the survivors of the votes, whose words are opened. Its functions ask for k < d, and for buffers of t + 1, n + 1 or d words:
+// t and d are known at run time only, and there is no type of an array of such a length.
 #[derive(Clone, Copy)]
 struct Survivors<'a> {
     shares: Shares<'a>,
     set: u32,
-    ghost few: { shares.shape.n ≤ 31 },
     ghost decodable: { Decodable shares.shape.t shares.shape.d shares.words.now set },
 }
 
@@ -103,13 +104,10 @@ impl Survivors<'_> {
         requires { (k < self.now.shares.shape.d) × (length expected.now ≡ suc self.now.shares.shape.n) }
         ensures { result ≡ set_of self.now.shares.shape.n (λ i. eqb (get_or expected.now (i + 1) 0) (words self.now i k)) }
     {
-        let mut set = 0;
-        for i in 0..self.shares.shape.n {
-            if expected[i + 1] == self.shares.share_word(i, k) {
-                set = members::with(set, i);
-            }
-        }
-        set
+        members::those(
+            self.shares.shape.n,
+            |i| expected[i + 1] == self.shares.share_word(i, k),
+        )
     }
 
     // Fewer survivors are left than have to agree.

@@ -1,6 +1,5 @@
 -- `reconstruction::open_voted`: its two tests are those of 14 and 15 in `finish`, and survivors have a vote, so that they can be decoded.
 -- Assumes nothing.
-use Rattle.shares.proofs.Shapes.{station}
 use Rattle.reconstruction.proofs.Halves.{finish_14, finish_15, decodable, finish_words}
 use Rattle.reconstruction.proofs.open_voted.Goals as goal
 
@@ -15,7 +14,7 @@ returns-then-survivors-eq0 c =
 
 pub invariant_of-left : goal.invariant_of-left
 invariant_of-left c =
-    record { few = (station c.args.shares.now.shape).few; decodable = decodable c.args.shares.now _ _ c.requires.voted _ c.surviving-survivors.ensures c.if-survivors-eq0.false }
+    record { decodable = decodable c.args.shares.now _ _ c.requires.voted _ c.surviving-survivors.ensures c.if-survivors-eq0.false }
 
 pub returns : goal.returns
 returns c =

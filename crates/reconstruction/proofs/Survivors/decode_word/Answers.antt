@@ -10,5 +10,5 @@ use Rattle.reconstruction.proofs.Survivors.decode_word.Goals as goal
 pub returns : goal.returns
 returns c =
     decodes c.args.self.now _ c.requires.0 _
-    (c.column_by.ensures (λ i. i) (λ m i h. search rules) ∙ ap (λ n. tab n (λ i. words c.args.self.now i c.args.k)) (length-take-le _ _ c.args.self.now.few))
+    (c.column_by.ensures (λ i. i) (λ m i h. search rules) ∙ ap (λ n. tab n (λ i. words c.args.self.now i c.args.k)) (length-take-le _ _ c.args.self.now.shares.shape.few))
     _ c.requires.1 c.decode.result _ c.decode.ensures
