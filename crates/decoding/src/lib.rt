@@ -106,8 +106,6 @@ impl Word<'_> {
     }
 
     // The polynomial through the first t + 1 members of the set at which e is not 0, if enough members of the set agree with it: it is in the lent buffer.
-    // Inlined, since a call would make the stack of decoding larger.
-    #[inline(always)]
     fn through(&self, e: &[u16], coefficients: &mut [u16]) -> Option<()>
         requires { length coefficients.old ≡ suc self.now.t }
         ensures { Tried self.now e.now coefficients.new result }
