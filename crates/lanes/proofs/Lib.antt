@@ -1,3 +1,2 @@
 -- What is proved of this crate.
-pub mod Arrays
 pub mod Values

@@ -43,7 +43,7 @@ fn lane(eight: &[u16; 8], rows: &[[u16; 32]; 8], j: usize, after: u16) -> u16
 }
 
 // Eight words put in front, in every lane.
-#[tactic(auto, using(crate::proofs::Arrays::rewrites))]
+#[tactic(auto, using(lists::proofs::Loops::rewrites))]
 fn block(eight: &[u16; 8], rows: &[[u16; 32]; 8], values: &mut [u16; 32])
     ensures { values.new ≡ tab 32 (λ j. eight_before eight.now (λ m. get_or (get_or rows.now m []) j 0) (get_or values.old j 0)) }
 {
@@ -53,7 +53,7 @@ fn block(eight: &[u16; 8], rows: &[[u16; 32]; 8], values: &mut [u16; 32])
 }
 
 // One word put in front, in every lane.
-#[tactic(auto, using(crate::proofs::Arrays::rewrites))]
+#[tactic(auto, using(lists::proofs::Loops::rewrites))]
 fn one(word: u16, points: &[u16; 32], values: &mut [u16; 32])
     ensures { values.new ≡ tab 32 (λ j. sum word (product (get_or points.now j 0) (get_or values.old j 0))) }
 {
@@ -63,7 +63,7 @@ fn one(word: u16, points: &[u16; 32], values: &mut [u16; 32])
 }
 
 // The next powers, in place of the row's.
-#[tactic(auto, using(crate::proofs::Arrays::rewrites))]
+#[tactic(auto, using(lists::proofs::Loops::rewrites))]
 fn next_powers(row: &mut [u16; 32], points: &[u16; 32])
     ensures { row.new ≡ tab 32 (λ j. product (get_or row.old j 0) (get_or points.now j 0)) }
 {

@@ -1,15 +1,12 @@
 -- Loops that go over a list and write each place: by the place i, the first i places are f 0, .., f (i − 1), and the others are as they were.
 -- Assumes nothing.
-use Rattle.std.proofs.Common.{◌≡◌, ℕ, zero, suc, Bool, true, false, ◌&&◌, ◌≤◌, ◌+◌, ◌<◌, List, [], ◌∷◌, ◌++◌, length, take, drop, refl, sym, ap, ◌∙◌, arith}
-use native.Mathlib.Nat.{le_of_suc-le-suc}
+use Rattle.std.proofs.Common.{◌≡◌, ℕ, zero, suc, Bool, true, false, ◌&&◌, ◌≤◌, ◌+◌, ◌<◌, List, [], ◌∷◌, ◌++◌, length, take, drop, refl, sym, ap, ap₂, ◌∙◌, arith}
+use native.Mathlib.Nat.{add-zero, le_of_suc-le-suc}
 use Rattle.std.proofs.Math.ListN.{set, get_or}
-use Rattle.std.proofs.lemmas.List.{take_all, drop-set-lt, get_or-drop}
+use Rattle.std.proofs.lemmas.List.{take_all, take-append-drop, drop_all, append-nil, drop-set-lt, get_or-drop}
 use Rattle.std.proofs.lemmas.Grind.{take-set_at, drop_more_same}
 use Rattle.lists.specs.Tabulate.{tab, each}
 use Rattle.lists.proofs.Blocks.{tab_more}
-
-add-zero : {n : ℕ} → n + 0 ≡ n
-add-zero = omega arith
 
 module _ {A : Type 0} where
   pub tab_none : (f : ℕ → A) → tab 0 f ≡ []
@@ -28,7 +25,7 @@ module _ {A : Type 0} where
   -- a place that is still as it was
   pub read_kept : (l was : List A) (i : ℕ) (d : A) → drop i l ≡ drop i was → get_or l i d ≡ get_or was i d
   read_kept l was i d e =
-      ap (λ (k : ℕ). get_or l k d) (sym add-zero) ∙ sym (get_or-drop i l 0 d) ∙ ap (λ (r : List A). get_or r 0 d) e ∙ get_or-drop i was 0 d ∙ ap (λ (k : ℕ). get_or was k d) add-zero
+      ap (λ (k : ℕ). get_or l k d) (sym (add-zero i)) ∙ sym (get_or-drop i l 0 d) ∙ ap (λ (r : List A). get_or r 0 d) e ∙ get_or-drop i was 0 d ∙ ap (λ (k : ℕ). get_or was k d) (add-zero i)
 
   -- the places after one that is written are as they were
   pub kept_next : (l was : List A) (i n : ℕ) (w : A) → n ≡ i + 1 → drop i l ≡ drop i was → drop n (set l i w) ≡ drop n was
@@ -38,11 +35,19 @@ module _ {A : Type 0} where
       ∙ drop_more_same l was i k
       ∙ ap (λ (m : ℕ). drop m was) (sym e)
 
+  -- all of them, of an array whose length is that of what it was
+  pub rewritten_last : (f : ℕ → A) (l was : List A) (n i : ℕ) → length was ≡ n → n ≡ i → take i l ≡ tab i f → drop i l ≡ drop i was → l ≡ tab n f
+  rewritten_last f l was n i e h t k =
+      sym (take-append-drop i l)
+      ∙ ap₂ (λ a b. a ++ b) t (k ∙ drop_all i was (omega arith))
+      ∙ append-nil (tab i f)
+      ∙ ap (λ (m : ℕ). tab m f) (sym h)
+
 -- for a loop that writes f i at each place i
 pub ruleset writes = (tab_none, written_next, written_last)
 
 -- for a loop that writes at each place i what it works out from the word that stood there
-pub ruleset rewrites = (tab_none, written_next, written_last, read_kept, kept_next)
+pub ruleset rewrites = (tab_none, written_next, written_last, rewritten_last, read_kept, kept_next)
 
 -- a loop that asks each element for a test, and keeps whether all have passed
 module _ {A : Type 0} (p : A → Bool) where

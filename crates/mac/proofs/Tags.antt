@@ -6,9 +6,8 @@ use Prim.Native.Nat.{ℕ, ◌+◌, ◌*◌, ◌%◌, ◌<◌}
 use native.Mathlib.Omega.{arith}
 use lib.ListN.{get_or, drop}
 use Rattle.lists.specs.Tabulate.{tab}
-use Rattle.lists.proofs.Loops.{tab_none, written_next, read_kept, kept_next}
+use Rattle.lists.proofs.Loops.{tab_none, written_next, rewritten_last, read_kept, kept_next}
 use Rattle.lists.proofs.Tabulate.{get_or-tab}
-use Rattle.lanes.proofs.Arrays.{rewritten_last}
 use Rattle.field.specs.Field.{prime, sum, product}
 use Rattle.field.specs.Internal.Dot.{dot}
 use Rattle.field.proofs.Congruence.{◌≈◌, same_refl, same_sym, same_trans, same_eq, eq_same, reduced, times, ◌⊕◌, ◌⊗◌, lc}

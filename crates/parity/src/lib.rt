@@ -11,7 +11,7 @@ ghost use Rattle.parity.specs.Internal.Summing.{Fits, Cleared, Added, Summed, su
 
 use shares::Shares;
 
-// The weights of n = 3, 5, .., 31 members.
+// The weights of n = 3, 5, .., 31 members, one station after the other: one flat table, as document 02 names it.
 const WEIGHTS: [u16; 255] = [
     32761, 65520, 32761, 62791, 10920, 49141, 10920, 62791, 65430, 546, 64156, 1820, 64156, 546,
     65430, 40949, 13, 32715, 91, 49027, 91, 32715, 13, 40949, 1183, 53691, 53235, 54603, 51867,

@@ -21,6 +21,7 @@ fn values_of(f: &[u16], set: u32, values: &mut [u16]) {
 }
 
 // Makes the value of member i of the set wrong, by the value of another polynomial or by a small difference; how many errors are left.
+// `far` is a bool, since cases are given as a table of plain values, and a closure for each would be longer.
 fn spoil_one(g: &[u16], set: u32, values: &mut [u16], i: usize, far: bool, left: usize) -> usize {
     if left == 0 || values.len() <= i || !members::has(set, i) {
         return left;

@@ -9,6 +9,7 @@ use refusals::number_of;
 use std::io;
 use std::io::Read;
 
+// `u64::from` with its bound, which the sum below needs and an edit spoils.
 fn wide(word: u16) -> u64
     ensures { result < 65536 }
 {
