@@ -25,10 +25,6 @@ use Rattle.members.specs.Members.{size, own_points, has, set_of, card}
 use Rattle.members.proofs.Masks.{has-set_of, set_of-lt, set_of_ext, set_of-has, card-set_of}
 use Rattle.members.proofs.Points.{length_own}
 use Rattle.members.proofs.Words.{size_32, card_32}
-use Rattle.shares.specs.Layout.{share_word}
-use Rattle.shares.specs.Internal.Shape.{Station}
-use Rattle.shares.specs.declared.Shape.{Shape}
-use Rattle.shares.proofs.Shapes.{station}
 use Rattle.decoding.specs.Decoding.{surplus, need, agreeing, Fits, nth, find}
 use Rattle.decoding.proofs.Apart.{too_few}
 use Rattle.decoding.proofs.Points.{own_distinct}
@@ -37,7 +33,8 @@ use Rattle.decoding.proofs.Unique.{need_least, agrees, card-agreeing, agreeing_s
 use Rattle.decoding.proofs.Words.{word_at, no_word, by_words_lem}
 use Rattle.reconstruction.specs.Reconstruction.{Opened, unopened, at_zero_of, opened_from}
 use Rattle.reconstruction.specs.declared.Survivors.{Survivors}
-use Rattle.reconstruction.specs.Internal.Steps.{Decodable, Met, Begun, Got, by_words}
+use Rattle.reconstruction.specs.Internal.Steps.{Met, Begun, Got, by_words}
+use Rattle.reconstruction.specs.Internal.Words.{words}
 use Rattle.reconstruction.proofs.ByWord.{single, Turned, turned_both}
 
 -- enough of a set are not more than all
@@ -189,11 +186,11 @@ module _ (xs : List ℕ) (distinct : Distinct xs) (t : ℕ) (long : length xs �
       (le-leb (need t (card (size t) s)) (card (size t) (agreeing xs t d y s (poly xs t y s))) (le_trans g.many (le_of_eq (ap (card (size t)) g.members)))) in
       let members : agreed ≡ agreeing xs t d y s (nth fs) =
       g.members ∙ agreeing_same xs t d y s (poly xs t y s) (nth fs) (λ j l z. same_eq (ap (λ (f : List ℕ). eval f z) (same j l))) in
-      let words : secret ≡ at_zero_of d (nth fs) =
+      let stored : secret ≡ at_zero_of d (nth fs) =
       sym (take_all d secret (le_of_eq g.length_secret))
       ∙ g.so_far
       ∙ tab_ext d (λ j. value (poly xs t y s j) 0) (λ j. value (nth fs j) 0) (λ j l. ap (λ (f : List ℕ). value f 0) (same j l)) in
-      (λ i. record { number = 0; survivors = s; agreeing = members i; secret = words i }) ∙ sym (ap (opened_from xs t d y s) found)
+      (λ i. record { number = 0; survivors = s; agreeing = members i; secret = stored i }) ∙ sym (ap (opened_from xs t d y s) found)
 
 -- nothing is found: the refusal 16
 nothing : (xs : List ℕ) (t d : ℕ) (y : ℕ → ℕ → ℕ) (s : ℕ) → find xs t d y s ≡ none → (answer : Opened) (len : ℕ) → len ≡ d → answer ≡ unopened len s 16
@@ -203,38 +200,16 @@ nothing xs t d y s None-found answer len el e = e ∙ ap (λ (m : ℕ). unopened
 
 -- The same at the members' own points, as the code has it.
 module _ (remaining : Survivors) where
-  abbrev shape : Shape
-  shape = remaining.shares.shape
-
-  abbrev words : List ℕ
-  words = remaining.shares.words.now
-
-  abbrev s : ℕ
-  s = remaining.set
-
-  abbrev dec : Decodable shape.t shape.d words s
-  dec = remaining.decodable
-
-  station_of : Station shape
-  station_of = station shape
-
-  abbrev t : ℕ
-  t = shape.t
-
-  abbrev d : ℕ
-  d = shape.d
+  open remaining use {set as s, decodable as dec, shares.{shape, shape.{t, d, t_high as low}}}
 
   abbrev y : ℕ → ℕ → ℕ
-  y = share_word t d words
-
-  low : t ≤ 15
-  low = station_of.range.t_high
+  y = words remaining
 
   abbrev Opening : ℕ → List ℕ → ℕ → Type 0
   Opening = Going (own_points t) t d y s
 
   abbrev answered : Opened
-  answered = by_words shape words s
+  answered = by_words shape remaining.shares.words.now s
 
   pub opening_begun : {secret : List ℕ} {k : ℕ} → length secret ≡ d → Begun (own_points t) t d y s k secret → Opening s secret k
   opening_begun {secret} {k} = going_begun (own_points t) (own_distinct t low) t (length_own t) d y s secret k dec.below dec.enough
@@ -251,10 +226,10 @@ module _ (remaining : Survivors) where
     )
 
     pub opening-set : agreed < 2 ^ shape.n
-    opening-set = subst (λ (n : ℕ). agreed < 2 ^ n) (sym station_of.members) opening_below.0
+    opening-set = subst (λ (n : ℕ). agreed < 2 ^ n) (sym shape.members) opening_below.0
 
     pub opening_enough : {m : ℕ} → m ≡ suc t → m ≤ card shape.n agreed
-    opening_enough e = le_trans (le_of_eq e) (subst (λ (n : ℕ). suc t ≤ card n agreed) (sym station_of.members) opening_below.1)
+    opening_enough e = le_trans (le_of_eq e) (subst (λ (n : ℕ). suc t ≤ card n agreed) (sym shape.members) opening_below.1)
 
     module _ (more : k < d) where
       -- nothing is found for word k

@@ -26,9 +26,6 @@ use Rattle.members.specs.Members.{size, own_points, has, set_of, card}
 use Rattle.members.proofs.Masks.{set_of_ext, set_of-lt}
 use Rattle.members.proofs.Points.{length_own, own_point}
 use Rattle.members.proofs.Words.{size_32, card_32}
-use Rattle.shares.specs.Layout.{share_word}
-use Rattle.shares.specs.Internal.Shape.{Station}
-use Rattle.shares.specs.declared.Shape.{Shape}
 use Rattle.shares.proofs.Shapes.{station, is_a_threshold}
 use Rattle.decoding.specs.Answer.{answer_of}
 use Rattle.decoding.specs.Decoding.{Decoded, need, agreeing, nth, find, undecoded, decoded_from, decode}
@@ -38,7 +35,8 @@ use Rattle.decoding.proofs.Refusals.{judged_at, accepts}
 use Rattle.decoding.proofs.Search.{find-found, find_is}
 use Rattle.decoding.proofs.Words.{word_at}
 use Rattle.reconstruction.specs.declared.Survivors.{Survivors}
-use Rattle.reconstruction.specs.Internal.Steps.{Decodable, Got}
+use Rattle.reconstruction.specs.Internal.Steps.{Got}
+use Rattle.reconstruction.specs.Internal.Words.{words}
 use Rattle.reconstruction.proofs.Sets.{both_of}
 
 -- a refusal means that there is no polynomial
@@ -68,29 +66,10 @@ pub record Turned (xs : List ℕ) (t : ℕ) (y : ℕ → ℕ → ℕ) (s agreed 
   pub at_zero : v ≡ value f 0
 
 module _ (remaining : Survivors) (k : ℕ) (h : k < remaining.shares.shape.d) where
-  abbrev shape : Shape
-  shape = remaining.shares.shape
-
-  abbrev words : List ℕ
-  words = remaining.shares.words.now
-
-  abbrev s : ℕ
-  s = remaining.set
-
-  abbrev dec : Decodable shape.t shape.d words s
-  dec = remaining.decodable
-
-  station_of : Station shape
-  station_of = station shape
-
-  abbrev t : ℕ
-  t = shape.t
-
-  low : t ≤ 15
-  low = station_of.range.t_high
+  open remaining use {set as s, decodable as dec, shares.{shape, shape.{t, d, t_high as low}}}
 
   abbrev the_word : ℕ → ℕ
-  the_word i = share_word t shape.d words i k
+  the_word i = words remaining i k
 
   abbrev found : Option (List (List ℕ))
   found = find (own_points t) t 1 (λ i j. the_word i) s
@@ -98,10 +77,10 @@ module _ (remaining : Survivors) (k : ℕ) (h : k < remaining.shares.shape.d) wh
   module _ (values : List ℕ) (ev : values ≡ tab shape.n the_word) where
     value_at : (i : ℕ) → i < size t → get_or values i 0 ≡ the_word i
     value_at i l =
-        ap (λ (v : List ℕ). get_or v i 0) ev ∙ get_or-tab shape.n the_word i 0 (subst (λ (m : ℕ). i < m) (sym station_of.members) l)
+        ap (λ (v : List ℕ). get_or v i 0) ev ∙ get_or-tab shape.n the_word i 0 (subst (λ (m : ℕ). i < m) (sym shape.members) l)
 
     as_many : length values ≡ size t
-    as_many = ap length ev ∙ length-tab shape.n the_word ∙ station_of.members
+    as_many = ap length ev ∙ length-tab shape.n the_word ∙ shape.members
 
     judged : (i : ℕ) → i < size t → judged_at values s i ≡ true
     judged i l =
@@ -115,7 +94,7 @@ module _ (remaining : Survivors) (k : ℕ) (h : k < remaining.shares.shape.d) wh
         → answer_of r f ≡ decoded_from (suc t) found
     decodes len el r f a =
         a
-        ∙ accepts t values s len (is_a_threshold t shape.d station_of.range) (eq-eqb (length values) (size t) as_many) (eq-eqb len (suc t) el)
+        ∙ accepts t values s len (is_a_threshold t d (station shape).range) (eq-eqb (length values) (size t) as_many) (eq-eqb len (suc t) el)
         (lt-ltb s (2 ^ size t) dec.below) (le-leb (suc t) (card (size t) s) dec.enough) (all_intro (size t) (judged_at values s) judged)
         ∙ ap (decoded_from (suc t))
         (find_ext (own_points t) (own_distinct t low) t (length_own t) 1 s (λ i j. get_or values i 0) (λ i j. the_word i)
@@ -130,13 +109,13 @@ module _ (remaining : Survivors) (k : ℕ) (h : k < remaining.shares.shape.d) wh
     met_is : met ≡ set_of (size t) (λ i. eqb (value f (get_or (own_points t) i 0)) (the_word i))
     met_is =
         em
-        ∙ ap (λ (n : ℕ). set_of n (λ i. eqb (get_or expected (i + 1) 0) (the_word i))) station_of.members
+        ∙ ap (λ (n : ℕ). set_of n (λ i. eqb (get_or expected (i + 1) 0) (the_word i))) shape.members
         ∙ set_of_ext (size t) (λ i. eqb (get_or expected (i + 1) 0) (the_word i)) (λ i. eqb (value f (get_or (own_points t) i 0)) (the_word i))
         (λ i l.
         ap (λ (v : ℕ). eqb v (the_word i))
-        (expected_at (i + 1) (omega (arith, station_of.members)) ∙ ap (value f) (add-one i ∙ sym (own_point t i l))))
+        (expected_at (i + 1) (omega (arith, shape.members)) ∙ ap (value f) (add-one i ∙ sym (own_point t i l))))
 
-    got : found ≡ some (f ∷ []) → Got (own_points t) t (share_word t shape.d words) s k met (get_or expected 0 0)
+    got : found ≡ some (f ∷ []) → Got (own_points t) t (words remaining) s k met (get_or expected 0 0)
     got q = record { f = f; found = q; meets = met_is; at_zero = expected_at 0 zero-le }
 
     -- enough survivors meet it
@@ -175,7 +154,7 @@ module _ (remaining : Survivors) (k : ℕ) (h : k < remaining.shares.shape.d) wh
   pub came_found : (f : List ℕ) → answer_of (Ok tt) f ≡ decoded_from (suc t) found
       → {expected : List ℕ} {len : ℕ} → len ≡ suc shape.n → expected ≡ tab len (value f)
       → {met : ℕ} → met ≡ set_of shape.n (λ i. eqb (get_or expected (i + 1) 0) (the_word i))
-      → Got (own_points t) t (share_word t shape.d words) s k met (get_or expected 0 0)
+      → Got (own_points t) t (words remaining) s k met (get_or expected 0 0)
   came_found f a {expected} {len} el ee {met} em =
       got f expected (ee ∙ ap (λ (n : ℕ). tab n (value f)) el) met em
       (found-one (suc t) f found (λ fs q. (find-found (own_points t) t 1 (λ i j. the_word i) s fs q).places) a)
@@ -185,7 +164,7 @@ module _ (remaining : Survivors) (k : ℕ) (h : k < remaining.shares.shape.d) wh
       → {expected : List ℕ} → expected ≡ tab (suc shape.n) (value (interpolate points ys))
       → {met : ℕ} → met ≡ set_of shape.n (λ i. eqb (get_or expected (i + 1) 0) (the_word i))
       → {left : ℕ} → left ≡ set_of 32 (λ i. has s i && has met i) → {b : Bool} → b ≡ ltb (card 32 left) (need t (card 32 s)) → b ≡ false
-      → Got (own_points t) t (share_word t shape.d words) s k met (get_or expected 0 0)
+      → Got (own_points t) t (words remaining) s k met (get_or expected 0 0)
   came_read points ys lp ly {expected} ee {met} em {left} el {b} eb enough =
       let f : List ℕ = interpolate points ys in
       got f expected ee met em
