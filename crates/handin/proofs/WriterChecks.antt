@@ -1,6 +1,6 @@
 -- The writer's checks in their order, as the code makes them; and the text, where it fits.
 -- Assumes nothing.
-use mathlib.Core.Path.{◌≡◌, ap, ap₂, ◌∙◌}
+use mathlib.Core.Path.{◌≡◌, refl, ap, ap₂, ◌∙◌}
 use mathlib.Core.Bool.{true, false}
 use mathlib.Core.List.{List, ◌++◌}
 use Prim.Native.Nat.{ℕ, ◌+◌, ◌*◌, ◌≤◌, ◌<◌}
@@ -9,9 +9,11 @@ use borrow.Author.Tests.{le-leb, lt-leb}
 use lib.Dec.{eqb}
 use lib.ListN.{length, drop, length-append}
 use Rattle.std.specs.Prelude.{Ok, Err}
-use Rattle.members.specs.Members.{is_threshold, size, is_set}
+use Rattle.members.specs.Members.{is_threshold, size, is_set, first_of}
 use Rattle.shares.specs.Layout.{is_length, is_day, width}
 use Rattle.shares.specs.declared.Shape.{Shape}
+use Rattle.shares.proofs.Shapes.{in_range}
+use Rattle.shares.proofs.Tests.{wrong_length, right_length, beyond_n, within_n}
 use Rattle.text.specs.Internal.Writing.{Written}
 use Rattle.text.proofs.Writing.{written_then, written_as, written_front, written_count}
 use Rattle.handin.specs.Writer.{HandInText, first_line, share_lines, text_of, unwritten, written, write}
@@ -79,18 +81,25 @@ module _ (t d quorum day present : ℕ) (words buffer : List ℕ) where
       unfolding written_of write unwritten
       wrote_32 h = rw (threshold, in_length, h)
 
-      module _ (is_a_day : is_day day ≡ true) where
-        pub wrote_11 : eqb (length words) (size t * width t d) ≡ false → written_of (Err BadInputLength) buffer ≡ write t d quorum day present words buffer
+      module _ (is_a_day : is_day day ≡ true) (s : Shape) (es : (s.t ≡ t) × (s.d ≡ d)) where
+        pub wrote_11 : (length words ≡ s.n * s.width → ⊥) → written_of (Err BadInputLength) buffer ≡ write t d quorum day present words buffer
         unfolding written_of write unwritten
-        wrote_11 h = rw (threshold, in_length, is_a_day, h)
+        wrote_11 h = rw (threshold, in_length, is_a_day, wrong_length t d s es words h)
 
-        module _ (long : eqb (length words) (size t * width t d) ≡ true) where
-          pub wrote_12 : is_set (size t) present ≡ false → written_of (Err MemberBeyondN) buffer ≡ write t d quorum day present words buffer
+        module _ (long : length words ≡ s.n * s.width) where
+          right : eqb (length words) (size t * width t d) ≡ true
+          right = right_length t d s es words long
+
+          pub wrote_12 : first_of s.n < present → written_of (Err MemberBeyondN) buffer ≡ write t d quorum day present words buffer
           unfolding written_of write unwritten
-          wrote_12 h = rw (threshold, in_length, is_a_day, long, h)
+          wrote_12 h = rw (threshold, in_length, is_a_day, right, beyond_n t d s es (in_range t d threshold in_length) present (first_of s.n) refl h)
 
-          pub goes_on : is_set (size t) present ≡ true → (s : Shape) (answer : HandInText) → (s.t ≡ t) × (s.d ≡ d)
-              → answer ≡ fitted (text_of s.t s.d quorum day present words) buffer → answer ≡ write t d quorum day present words buffer
+          pub goes_on : present ≤ first_of s.n → (answer : HandInText) → answer ≡ fitted (text_of s.t s.d quorum day present words) buffer
+              → answer ≡ write t d quorum day present words buffer
           unfolding write fitted
-          goes_on h s answer es e =
-              e ∙ rw (es.0, es.1, threshold, in_length, is_a_day, long, h)
+          goes_on h answer e =
+              let within : is_set (size t) present ≡ true = within_n t d s es (in_range t d threshold in_length) present (first_of s.n) refl h in
+              e ∙ rw (es.0, es.1, threshold, in_length, is_a_day, right, within)
+
+-- for the checks as the code makes them
+pub ruleset by_check = (wrote_1, wrote_2, wrote_32, wrote_11, wrote_12, goes_on)
