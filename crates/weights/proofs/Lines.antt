@@ -1,17 +1,16 @@
 -- Laws of the table's lines: a line as the code writes it, its room, and the table in a buffer that it fills.
 -- Assumes nothing.
-use mathlib.Core.Path.{◌≡◌, sym, ap, ap₂, ◌∙◌}
+use mathlib.Core.Path.{◌≡◌, ap, ap₂, ◌∙◌}
 use mathlib.Core.List.{List, [], ◌∷◌, ◌++◌, map, append-nil}
-use Prim.Native.Nat.{ℕ, suc, ◌+◌, ◌-◌, ◌≤◌, ◌<◌}
+use Prim.Native.Nat.{ℕ, suc, ◌+◌, ◌-◌, ◌≤◌}
 use native.Mathlib.Numerals.{add-one}
 use native.Mathlib.Omega.{arith}
 use lib.ListN.{length, drop, drop_of_length-le}
-use Rattle.lists.specs.Tabulate.{concat}
+use Rattle.lists.specs.Tabulate.{tab, concat}
 use Rattle.members.specs.Members.{size}
 use Rattle.parity.specs.Parity.{weight}
 use Rattle.text.specs.Lines.{digits, field, line}
 use Rattle.text.specs.Internal.Writing.{Written}
-use Rattle.text.proofs.Pieces.{Pieces, pieces_room, pieces_next, pieces_last}
 use Rattle.text.proofs.Printing.{length_list}
 use Rattle.text.proofs.Writing.{written_as, written_front}
 use Rattle.weights.specs.WeightTable.{weight_line, member_lines, table}
@@ -31,28 +30,17 @@ module _ (t n i w : ℕ) (en : n ≡ size t) (e : w ≡ weight (size t) i) where
       → Written before at (weight_line (size t) i) after end
   line-written p = written_as as_written p
 
--- the lines of the n below 2t + 1 are written
-abbrev pub Printed : List ℕ → List ℕ → ℕ → ℕ → Type 0
-Printed before output end t = Pieces 15 (λ k. member_lines (size (suc k))) before 0 output end (t - 1)
-
 -- the lines of the next n, as the code counts it
-next_lines : (t : ℕ) → 1 ≤ t → member_lines (size (suc (t - 1))) ≡ member_lines (size t)
+pub next_lines : (t : ℕ) → 1 ≤ t → member_lines (size (suc (t - 1))) ≡ member_lines (size t)
 next_lines t low = ap (λ (k : ℕ). member_lines (size k)) (omega arith)
 
 -- the whole table has as many bytes as the buffer
-module _ (before output : List ℕ) (end t : ℕ) (low : 1 ≤ t) (b : Printed before output end t) where
-  pub printed_room : length before ≡ 2858 → t ≤ 15 → end + length (member_lines (size t)) ≤ length output
-  unfolding table
-  printed_room long h = rw (← next_lines t low) (pieces_room b (omega arith) (omega (arith, long, examples.long)))
+pub table_long : length (concat (tab 15 (λ k. member_lines (size (suc k))))) ≡ 2858
+unfolding table
+table_long = examples.long
 
-  pub printed_next : {after : List ℕ} {next : ℕ} → t ≤ 15 → Written output end (member_lines (size t)) after next → Printed before after next (t + 1)
-  printed_next {after} {next} h w =
-      let e : t - 1 + 1 ≡ t + 1 - 1 = omega arith in
-      rw e at (pieces_next b (omega arith) (written_as (sym (next_lines t low)) w))
-
-  pub printed_last : length before ≡ 2858 → 15 < t → output ≡ table
-  unfolding table
-  printed_last long h =
-      let w : Written before 0 table output end = pieces_last b (omega arith) in
-      let none_left : drop end before ≡ [] = drop_of_length-le before {i = end} (omega (arith, long, w.next, examples.long)) in
-      written_front w ∙ ap (λ (rest : List ℕ). table ++ rest) none_left ∙ append-nil table
+-- so what is written from the front on is all that it holds
+pub fills : {before output : List ℕ} {end : ℕ} → length before ≡ 2858 → Written before 0 table output end → output ≡ table
+fills {before} {end = end} long w =
+    let none_left : drop end before ≡ [] = drop_of_length-le before {i = end} (omega (arith, long, w.next, examples.long)) in
+    written_front w ∙ ap (λ (rest : List ℕ). table ++ rest) none_left ∙ append-nil table
