@@ -105,3 +105,6 @@ pub cleared-ok : (r : Result given.HandIn Refusal) (ws : List ℕ) (a : HandIn) 
 unfolding cleared
 cleared-ok (Ok g) ws a e h = h
 cleared-ok (Err k) ws a e h = absurd (true≢false e)
+
+-- for the checks of the first line as the code makes them
+pub ruleset first_checks = (first_t, first_d, first_day)

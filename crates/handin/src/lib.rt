@@ -78,6 +78,7 @@ pub struct HandIn {
 
 // The numbers of a D line, and the P lines after it. The checks of t, d and the day stand here and in `write` again: so each call's own order and numbers are
 // in sight, as its definition lists them.
+#[tactic(auto, using(crate::proofs::Reading::first_checks))]
 fn read_numbers(text: &[u8], first: &[u16; 4], words: &mut [u16; 4867]) -> Result<HandIn, Refusal>
     ensures { answer_of result (cleared result words.new) ≡ read_numbers (length words.old) (some first.now) (parts 10 text.now) }
 {

@@ -79,3 +79,6 @@ module _ (t d day present quorum : ℕ) (words : List ℕ) where
                       (sym (ap (λ (m : ℕ). is_quorum m quorum) es.0) ∙ h)
                       ∙ sym (ap₂ opened_by es.0 es.1);
                 }
+
+-- for the checks as the code makes them
+pub ruleset by_check = (refused_1, refused_2, refused_32, refused_11, goes_on)

@@ -321,6 +321,7 @@ fn open_shares(
 }
 
 // The checks before the votes, in their order: the shape of the shares, or the first refusal.
+#[tactic(auto, using(crate::proofs::Order::by_check))]
 fn check(
     t: usize,
     day: u16,

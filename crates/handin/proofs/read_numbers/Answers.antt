@@ -3,17 +3,8 @@
 use Rattle.std.proofs.Common.{refl, sym, rules}
 use Rattle.std.proofs.lemmas.Result.{err_from_is_err_and}
 use Rattle.shares.proofs.Shapes.{in_range}
-use Rattle.handin.proofs.Reading.{first_t, first_d, first_day, lines_refused, lines_taken}
+use Rattle.handin.proofs.Reading.{lines_refused, lines_taken}
 use Rattle.handin.proofs.read_numbers.Goals as goal
-
-pub returns-then-not-threshold : goal.returns-then-not-threshold
-returns-then-not-threshold c = first_t _ _ _ _ refl (sym c.if-not-threshold.ensures)
-
-pub returns-then-not-within : goal.returns-then-not-within
-returns-then-not-within c = first_d _ _ _ _ refl (sym c.if-not-threshold.ensures) (sym c.if-not-within.ensures)
-
-pub returns-then-not-is_day : goal.returns-then-not-is_day
-returns-then-not-is_day c = first_day _ _ _ _ refl (sym c.if-not-threshold.ensures) (sym c.if-not-within.ensures) (sym c.if-not-is_day.ensures)
 
 pub new-requires : goal.new-requires
 new-requires c =
