@@ -15,7 +15,8 @@ ghost use Rattle.decoding.specs.Decoding.{need, find, decoded_from, decode};
 
 use refusals::Refusal;
 
-// One word: member i has the point and the value at place i, and the members of the set are to be decoded.
+// One word: member i has the point and the value at place i, and the members of the set are to be decoded. Its functions are lent t + 1 words for coefficients:
+// t is known at run time only, and there is no type of an array of such a length.
 #[derive(Clone, Copy)]
 struct Word<'a> {
     t: usize,

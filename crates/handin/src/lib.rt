@@ -45,7 +45,7 @@ fn take_share(
 fn take_line(line: &[u8], s: Shape, present: u32, words: &mut [u16; 4867]) -> Result<u32, Refusal>
     ensures { (taken : List Share) → Holds s.t s.d taken present words.old → Comes s.t s.d (take_line s.t s.d taken line.now) result words.new }
 {
-    let mut room = [0u16; 158];
+    let mut room = [0u16; 158]; // for the widest line: a share's width is known at run time only, and no memory is allocated
     let numbers = &mut room[..1 + s.width];
     text::numbers(line, b'P', numbers).ok_or(Refusal::BadLine)?;
     take_share(s, present, numbers, words)

@@ -1,5 +1,5 @@
 // The tag of a list of words under a key, whole or as its first word and the rest; and the latter under 32 keys at once. A key is two words here, α and β, as
-// the call for C lends them; `Key` is of `shares`, where keys are read.
+// the rules name them, and the call for C takes them so; `Key` is of `shares`, where keys are read.
 #![tactic(auto)]
 
 ghost use Rattle.std.specs.Prelude.{◌≡◌, ◌∷◌, get_or};

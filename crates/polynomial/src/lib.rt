@@ -46,8 +46,8 @@ pub fn fill_powers(x: u16, powers: &mut [u16])
     }
 }
 
-// Eight coefficients times the powers 0 to 7, and `top` times the power 8, with no reduction. As `&[u16; 8]`, taken by `as_chunks`, the block would need a law that
-// `sixteen` is the same over chunks as over `take` and `drop`.
+// Eight coefficients times the powers 0 to 7, and `top` times the power 8, with no reduction. It was tried with the block as `&[u16; 8]`, taken by
+// `as_chunks`: the proof did not close, since nothing says that `sixteen` is the same over chunks as over `take` and `drop`.
 #[tactic(auto, using(field::proofs::Dot::adding))]
 fn add_eight(block: &[u16], powers: &[u16; 9], top: u64) -> u64
     requires { (length block.now ≡ 8) × (top ≤ 38653526025) }
@@ -115,7 +115,8 @@ pub fn evaluate_by_powers(constant: u16, others: &[u16], powers: &[u16]) -> u16
     field::add(constant, field::inner_product(others, &powers[1..]))
 }
 
-// The slopes from point i to the points after it, in place of their values.
+// The slopes from point i to the points after it, in place of their values. Points and values are two slices here and below: a struct of them would have to say in
+// each contract that its values are the ones that were lent.
 #[tactic(auto, using(crate::proofs::InPlace::slopes_first))]
 fn slopes(points: &[u16], values: &mut [u16], i: usize)
     requires { (length values.old ≡ length points.now) × (i < length points.now) }

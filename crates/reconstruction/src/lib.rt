@@ -298,7 +298,8 @@ pub fn open_voted(
     left.open_all(secret)
 }
 
-// Opening after its checks: the usable members, their votes, and the second half.
+// Opening after its checks: the usable members, their votes, and the second half. Day, present mask and quorum stay plain numbers, as the caller gives them: each
+// goes its own way from here, and a struct of the three would be made for this one call.
 #[tactic(auto, unfolding(members::specs::Members::size))]
 fn open_shares(
     shares: &Shares,

@@ -37,7 +37,7 @@ fn sort(b: u8) -> Kind
     }
 }
 
-// Document 01 wants each byte sorted by one match, so this test and the next go through it.
+// Document 01 wants each byte sorted by a match, so this test and the next go through it.
 fn is_digit(b: u8) -> bool
     ensures { result ≡ is_digit b }
 {
@@ -98,7 +98,7 @@ fn short(value: u32) -> Option<u16>
     u16::try_from(value).ok()
 }
 
-// What a field stands for: the number of 1 to 5 digits with no leading zero, at most 65535.
+// What a field stands for: the number of 1 to 5 digits with no leading zero, at most 65535. Not by `parse`, which takes a sign and leading zeros.
 fn numeral(field: &[u8]) -> Option<u16>
     ensures { result ≡ numeral_of field.now }
 {

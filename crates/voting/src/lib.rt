@@ -29,7 +29,7 @@ pub struct Pairs {
     pub unread: u16,
 }
 
-// No votes of any kind, as the definition's `no_pairs`. A derived `Default` has no numbers that a must-fail edit could spoil.
+// No votes of any kind, as the definition's `no_pairs`: a derived `Default` would say the same, but the edit that spoils one of its numbers has to find it here.
 pub fn no_pairs() -> Pairs
     ensures { pairs_of result ≡ no_pairs }
 {

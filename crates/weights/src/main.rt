@@ -11,7 +11,7 @@ use std::io;
 use std::io::Write;
 use text::Output;
 
-// The line of member i of n = 2t + 1, counted from 0.
+// The line of member i of n = 2t + 1, counted from 0. The table has no d, so there is no `Shape` that has the bounds of t.
 fn put_weight_line(t: usize, i: usize, output: &mut Output)
     requires { (1 ≤ t) × (t ≤ 15) × (i < size t) × (output.old.end + length (weight_line (size t) i) ≤ length output.old.bytes.now) }
     ensures same_reference { output.new.bytes.ghost_name ≡ output.old.bytes.ghost_name }
