@@ -10,7 +10,7 @@ ghost use Rattle.lagrange.specs.Internal.Lagrange.{over, Apart, inverted, weight
 ghost use Rattle.lagrange.specs.Internal.Matrix.{Chosen, Rows, products};
 
 // The points of some of n members, and the rows that read off the polynomial through any values at them: the row for x its value at x, which is 0 or any
-// member's point. Both are lent, so that they can be filled anew for other members.
+// member's point. Both are lent: there are t + 1 points, which is known at run time only, and rows that are owned would be 1 KB to move at each renewal.
 #[derive(Drop)]
 pub struct Matrix<'a> {
     pub n: usize,
@@ -20,6 +20,16 @@ pub struct Matrix<'a> {
     pub ghost few: { length points.now ≤ 16 },
     pub ghost chosen: { Chosen n points.now },
     pub ghost readable: { Rows n points.now rows.now },
+}
+
+// Points, and Lagrange's weights of them.
+#[derive(Clone, Copy)]
+struct Nodes<'a> {
+    points: &'a [u16],
+    weights: &'a [u16],
+    ghost few: { length points.now ≤ 16 },
+    ghost apart: { Apart points.now },
+    ghost own: { weights.now ≡ weights_of points.now },
 }
 
 // A function of each point, multiplied over all of them.
@@ -83,20 +93,8 @@ fn entry(all: u16, weight: u16, x: u16, point: u16) -> u16
     )
 }
 
-// The row for x: its inner product with any values at the points is the value at x of the polynomial through them.
-#[tactic(auto, using(lists::proofs::Loops::writes, crate::proofs::Lagrange::row_words), unfolding(crate::proofs::Lagrange::entry_of))]
-fn fill_row(points: &[u16], weights: &[u16], x: u16, row: &mut [u16; 16])
-    requires apart { Apart points.now × (weights.now ≡ weights_of points.now) }
-    requires bounds { (x < prime) × (length points.now ≤ 16) }
-    ensures { Reads points.now x (take (length points.now) row.new) }
-{
-    let all = differences(x, points);
-    for (m, point) in points.iter().enumerate() {
-        row[m] = entry(all, weights[m], x, *point);
-    }
-}
-
-// The points of the first members of a set, as many as there is room for.
+// The points of the first members of a set, as many as there is room for. That the set is of n members and has so many is about one argument beside another,
+// and is only handed on to here: a type of sets with so many members would be made for these calls alone.
 fn choose(n: usize, set: u32, points: &mut [u16])
     requires { (n ≤ 31) × (set < 2 ^ n) × (length points.old ≤ card n set) }
     ensures { Chosen n points.new }
@@ -109,14 +107,27 @@ fn choose(n: usize, set: u32, points: &mut [u16])
     }
 }
 
-// Lagrange's rows for 0 and for the members' points.
-fn fill_rows(n: usize, points: &[u16], weights: &[u16], rows: &mut [[u16; 16]; 32])
-    requires n_bound { (n ≤ 31) × (length points.now ≤ 16) }
-    requires apart { Apart points.now × (weights.now ≡ weights_of points.now) }
-    ensures { Rows n points.now rows.new }
-{
-    for x in 0..n + 1 {
-        fill_row(points, weights, x as u16, &mut rows[x]);
+impl Nodes<'_> {
+    // The row for x: its inner product with any values at the points is the value at x of the polynomial through them.
+    #[tactic(auto, using(lists::proofs::Loops::writes, crate::proofs::Lagrange::row_words), unfolding(crate::proofs::Lagrange::entry_of))]
+    fn fill_row(&self, x: u16, row: &mut [u16; 16])
+        requires { x < prime }
+        ensures { Reads self.now.points.now x (take (length self.now.points.now) row.new) }
+    {
+        let all = differences(x, self.points);
+        for (m, point) in self.points.iter().enumerate() {
+            row[m] = entry(all, self.weights[m], x, *point);
+        }
+    }
+
+    // Lagrange's rows for 0 and for the points of n members.
+    fn fill_rows(&self, n: usize, rows: &mut [[u16; 16]; 32])
+        requires { n ≤ 31 }
+        ensures { Rows n self.now.points.now rows.new }
+    {
+        for x in 0..n + 1 {
+            self.fill_row(x as u16, &mut rows[x]);
+        }
     }
 }
 
@@ -135,7 +146,8 @@ pub fn prepare<'a>(
     let weights = &mut room[..points.len()];
     choose(n, set, points);
     fill_weights(points, weights);
-    fill_rows(n, points, weights, rows);
+    let nodes = Nodes { points, weights };
+    nodes.fill_rows(n, rows);
     Matrix { n, points, rows }
 }
 

@@ -8,20 +8,21 @@ ghost use Rattle.std.specs.Prelude.{◌≡◌, cond, ◌+◌, ◌≤◌, ◌<◌
 ghost use Rattle.members.specs.Members.{size, has};
 ghost use Rattle.locator.specs.Internal.Pairs.{raised, mixed, off_by, Advanced, start, first_turn, stepped, state_of, passed};
 
-// A pair (N, E), coefficients by power, 0 first.
+// A pair (N, E), coefficients by power, 0 first, and how often it was raised: that is the degree of the first pair's N, and of the second one's E.
 #[derive(Drop)]
 pub struct Pair {
     pub n: [u16; 32],
     pub e: [u16; 32],
+    pub degree: usize,
 }
 
-// The two pairs, with the degree of the first one's N and that of the second one's E.
+// The two pairs, for a polynomial of degree at most t.
 #[derive(Drop)]
 pub struct Pairs {
+    t: usize,
     pub first: Pair,
     pub second: Pair,
-    pub first_degree: usize,
-    pub second_degree: usize,
+    ghost small: { t ≤ 15 },
 }
 
 // (X − x) · f, in place; its last coefficient would be 0.
@@ -61,6 +62,7 @@ impl Pair {
 
     // This pair, which is off by d, is raised at x, and the other, which is off by d_other, is freed.
     fn advance(&mut self, x: u16, d: u16, d_other: u16, other: &mut Pair)
+        requires { self.old.degree ≤ 31 }
         ensures { Advanced x d d_other self.old other.old self.new other.new }
     {
         let minus = field::subtract(0, d_other);
@@ -68,45 +70,45 @@ impl Pair {
         mix(d, &mut other.e, minus, &self.e);
         raise(x, &mut self.n);
         raise(x, &mut self.e);
+        self.degree += 1;
     }
 }
 
 impl Pairs {
     // The first pair is the one to raise.
     #[tactic(auto, using(std::proofs::lemmas::Bool::Decides::nat_tests), unfolding(crate::specs::Internal::Pairs::first_turn))]
-    fn first_turn(&self, t: usize, d0: u16, d1: u16) -> bool
-        requires { (self.now.second_degree ≤ 32) × (t ≤ 15) }
-        ensures { result ≡ first_turn t d0 d1 self.now.first_degree self.now.second_degree }
+    fn first_turn(&self, d0: u16, d1: u16) -> bool
+        requires { self.now.second.degree ≤ 32 }
+        ensures { result ≡ first_turn self.now.t d0 d1 self.now.first.degree self.now.second.degree }
     {
-        d0 != 0 && (d1 == 0 || self.first_degree <= self.second_degree + t)
+        d0 != 0 && (d1 == 0 || self.first.degree <= self.second.degree + self.t)
     }
 
     // The step at (x, y).
     #[tactic(auto, using(std::proofs::lemmas::Bool::Decides::nat_tests), unfolding(crate::specs::Internal::Pairs::stepped, crate::specs::Internal::Pairs::step_by, crate::specs::Internal::Pairs::first_up, crate::specs::Internal::Pairs::second_up))]
-    fn step(&mut self, t: usize, x: u16, y: u16)
-        requires { (self.old.first_degree + self.old.second_degree ≤ 31) × (t ≤ 15) }
-        ensures { state_of self.new ≡ stepped t x y (state_of self.old) }
+    fn step(&mut self, x: u16, y: u16)
+        requires { self.old.first.degree + self.old.second.degree ≤ 31 }
+        ensures same_t { self.new.t ≡ self.old.t }
+        ensures state { state_of self.new.first self.new.second ≡ stepped self.old.t x y (state_of self.old.first self.old.second) }
     {
         let d0 = self.first.off_by(x, y);
         let d1 = self.second.off_by(x, y);
-        if self.first_turn(t, d0, d1) {
+        if self.first_turn(d0, d1) {
             self.first.advance(x, d0, d1, &mut self.second);
-            self.first_degree += 1;
         } else if d1 != 0 {
             self.second.advance(x, d1, d0, &mut self.first);
-            self.second_degree += 1;
         }
     }
 
-    // All members' steps, from the pairs (1, 0) and (0, 1). Points, values and set are what decoding's `Word` holds, which is above this crate and holds a station's
-    // shape besides.
-    fn pass(&mut self, t: usize, points: &[u16], values: &[u16], set: u32)
-        requires { (t ≤ 15) × (length points.now ≡ size t) × (length values.now ≡ size t) × (state_of self.old ≡ start 31) }
-        ensures { state_of self.new ≡ passed points.now t (λ i. get_or values.now i 0) set 31 (size t) }
+    // All members' steps, from the pairs (1, 0) and (0, 1). Points, values and set are what decoding's `Word`, above this crate, holds: a struct here would be
+    // built from it for this one call.
+    fn pass(&mut self, points: &[u16], values: &[u16], set: u32)
+        requires { (length points.now ≡ size self.old.t) × (length values.now ≡ size self.old.t) × (state_of self.old.first self.old.second ≡ start 31) }
+        ensures { state_of self.new.first self.new.second ≡ passed points.now self.old.t (λ i. get_or values.now i 0) set 31 (size self.old.t) }
     {
         for (i, y) in values.iter().enumerate() {
             if members::has(set, i) {
-                self.step(t, points[i], *y);
+                self.step(points[i], *y);
             }
         }
     }
@@ -116,22 +118,23 @@ impl Pairs {
 #[tactic(auto, unfolding(crate::specs::Internal::Pairs::start))]
 pub fn locate(t: usize, points: &[u16], values: &[u16], set: u32) -> Pairs
     requires { (t ≤ 15) × (length points.now ≡ size t) × (length values.now ≡ size t) }
-    ensures { state_of result ≡ passed points.now t (λ i. get_or values.now i 0) set 31 (size t) }
+    ensures { state_of result.first result.second ≡ passed points.now t (λ i. get_or values.now i 0) set 31 (size t) }
 {
     let mut pairs = Pairs {
+        t,
         first: Pair {
             n: [0; 32],
             e: [0; 32],
+            degree: 0,
         },
         second: Pair {
             n: [0; 32],
             e: [0; 32],
+            degree: 0,
         },
-        first_degree: 0,
-        second_degree: 0,
     };
     pairs.first.n[0] = 1;
     pairs.second.e[0] = 1;
-    pairs.pass(t, points, values, set);
+    pairs.pass(points, values, set);
     pairs
 }

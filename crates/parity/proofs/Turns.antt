@@ -21,6 +21,7 @@ use Rattle.field.specs.Field.{prime, product}
 use Rattle.field.proofs.Congruence.{◌≈◌, same_refl, same_trans, same_eq, reduced, times, ◌⊗◌}
 use Rattle.field.proofs.Operations.{product_same}
 use Rattle.members.specs.Members.{size}
+use Rattle.members.proofs.Words.{size_pos}
 use Rattle.parity.specs.Parity.{factorial, weight, parity, balanced}
 use Rattle.parity.specs.Internal.Looking.{leading, zero_scale, zero_weight, constant, dot, looked, with_values}
 use Rattle.parity.specs.Internal.Summing.{Summed, sum_at}
@@ -37,13 +38,13 @@ factorial_next k result w h e =
     ∙ ap (λ (m : ℕ). m % prime) (ap (λ (m : ℕ). m * factorial k) (add-one k) ∙ sym (ap factorial (add-one k)))
 
 -- the weight for the value at 0, with its scale
-pub zero-weight : (n k scale f i r : ℕ) → k ≡ n → f ≡ factorial (k - 1) % prime → scale ≡ product 65520 f
-    → r ≡ cond (ltb (suc i) k) (product scale (weight k (suc i))) 0 → r ≡ zero_weight n i
+pub zero-weight : (n scale f i r : ℕ) → f ≡ factorial (n - 1) % prime → scale ≡ product 65520 f
+    → r ≡ cond (ltb (suc i) n) (product scale (weight n (suc i))) 0 → r ≡ zero_weight n i
 unfolding zero_weight zero_scale
-zero-weight n k scale f i r en ef es er =
-    er
-    ∙ ap₂ (λ (m s : ℕ). cond (ltb (suc i) m) (product s (weight m (suc i))) 0) en
-    (es ∙ ap (product 65520) (ef ∙ ap (λ (m : ℕ). factorial (m - 1) % prime) en))
+zero-weight n scale f i r ef es er = er ∙ ap (λ (s : ℕ). cond (ltb (suc i) n) (product s (weight n (suc i))) 0) (es ∙ ap (product 65520) ef)
+
+-- for the loop that writes them: there is a member, and each place gets its weight
+pub ruleset zero_row = (size_pos, zero-weight)
 
 -- a sum that the code compares with 0
 pub not_0 : {r v : ℕ} → r ≡ v → (r ≡ 0 → ⊥) → eqb v 0 ≡ false
@@ -116,9 +117,10 @@ pub record Balancing (t d : ℕ) (y : ℕ → ℕ → ℕ) (row : List ℕ) (lef
   pub so_far : left ≡ leading d (λ k. all m (λ j. eqb (parity (size t) j (λ i. y i k)) 0))
 
 module _ (t d : ℕ) (y : ℕ → ℕ → ℕ) where
-  pub balancing_first : (row : List ℕ) → row ≡ tab (size t) (weight (size t)) → Balancing t d y row d 0
+  pub balancing_first : (n : ℕ) (row : List ℕ) → n ≡ size t → row ≡ tab n (weight n) → Balancing t d y row d 0
   unfolding all
-  balancing_first row e =
+  balancing_first n row members e₀ =
+      let e : row ≡ tab (size t) (weight (size t)) = e₀ ∙ ap (λ (m : ℕ). tab m (weight m)) members in
       record {
         inside = zero-le;
         long = ap length e ∙ length-tab (size t) (weight (size t));
@@ -190,7 +192,7 @@ front : (l vs : List ℕ) (k : ℕ) → length vs ≡ k → k ≤ length l → v
 front l vs k e h = ap (λ (n : ℕ). vs ++ drop n l) {y = 0 + length vs} (omega arith) ∙ sym (sets-eq vs l 0 (omega arith))
 
 -- the values that are stored are those at 0
-pub stored_values : (t n d : ℕ) (y : ℕ → ℕ → ℕ) (row low high : List ℕ) (k m : ℕ) (before values : List ℕ) → n ≡ size t → row ≡ tab (size t) (zero_weight (size t))
+pub stored_values : (t n d : ℕ) (y : ℕ → ℕ → ℕ) (row low high : List ℕ) (k m : ℕ) (before values : List ℕ) → n ≡ size t → row ≡ tab n (zero_weight n)
     → Summed d y row n low high → k ≤ d → k ≤ length before → m ≡ k → values ≡ tab m (sum_at low high) → values ++ drop k before ≡ with_values t k y before
 unfolding with_values constant dot
 stored_values t n d y row low high k m before values en er sums few inside em ev =
@@ -201,10 +203,10 @@ stored_values t n d y row low high k m before values en er sums few inside em ev
     ∙ tab_ext k (sum_at low high) (λ j. constant (size t) (λ i. y i j))
     (λ j l.
     sum_at_lem d n y row low high sums j (omega (arith, l, few))
-    ∙ ap (λ (m : ℕ). dot m row (λ i. y i j)) en
     ∙ ap (λ (m : ℕ). m % prime)
-    (sum_to_ext (size t) (λ i. get_or row i 0 * y i j) (λ i. zero_weight (size t) i * y i j)
-    (λ i h. ap (λ (w : ℕ). w * y i j) (ap (λ (r : List ℕ). get_or r i 0) er ∙ get_or-tab (size t) (zero_weight (size t)) i 0 h)))))
+    (sum_to_ext n (λ i. get_or row i 0 * y i j) (λ i. zero_weight n i * y i j)
+    (λ i h. ap (λ (w : ℕ). w * y i j) (ap (λ (r : List ℕ). get_or r i 0) er ∙ get_or-tab n (zero_weight n) i 0 h)))
+    ∙ ap (λ (m : ℕ). constant m (λ i. y i j)) en))
 
 -- and are read there
 pub opened_at : (t k : ℕ) (y : ℕ → ℕ → ℕ) (secret : List ℕ) (j : ℕ) → k ≤ length secret → j < k → get_or (with_values t k y secret) j 0 ≡ constant (size t) (λ i. y i j)

@@ -9,7 +9,7 @@ ghost use Rattle.parity.specs.Parity.{factorial as factorial_of, weight as weigh
 ghost use Rattle.parity.specs.Internal.Looking.{leading, words, zero_weight, looked, with_values};
 ghost use Rattle.parity.specs.Internal.Summing.{Fits, Cleared, Added, Summed, sum_at};
 
-use shares::Shares;
+use shares::{Shape, Shares};
 
 // The weights of n = 3, 5, .., 31 members, one station after the other: one flat table, as document 02 names it.
 const WEIGHTS: [u16; 255] = [
@@ -34,7 +34,8 @@ const WEIGHTS: [u16; 255] = [
     7645, 49641, 56228, 59748, 27549, 41509, 1656, 13049,
 ];
 
-// The weight of member i of n = 2t + 1, from the table. (t is asked to be 1 to 15 here and below where no shape is at hand, which has these bounds itself.)
+// The weight of member i of n = 2t + 1, from the table. It takes t, and asks for its bounds, in place of a shape, which has them: the crate `weights`, which
+// prints the table, has a t and no d.
 pub fn weight(t: usize, i: usize) -> u16
     requires { (1 ≤ t) × (t ≤ 15) × (i < size t) }
     ensures { result ≡ weight_of (size t) i }
@@ -44,12 +45,12 @@ pub fn weight(t: usize, i: usize) -> u16
 
 // The weights of a station's members.
 #[tactic(auto, using(lists::proofs::Loops::writes))]
-fn fill_weights(t: usize, row: &mut [u16])
-    requires { (1 ≤ t) × (t ≤ 15) × (length row.old ≡ size t) }
-    ensures { row.new ≡ tab (size t) (weight_of (size t)) }
+fn fill_weights(shape: Shape, row: &mut [u16])
+    requires { length row.old ≡ shape.n }
+    ensures { row.new ≡ tab shape.n (weight_of shape.n) }
 {
     for (i, entry) in row.iter_mut().enumerate() {
-        *entry = weight(t, i);
+        *entry = weight(shape.t, i);
     }
 }
 
@@ -144,7 +145,7 @@ fn count_balanced(shares: &Shares, row: &mut [u16], sums: &mut Halves) -> usize
     requires { length row.old ≡ shares.now.shape.n }
     ensures { result ≡ looked shares.now.shape.t shares.now.shape.d (words shares.now) }
 {
-    fill_weights(shares.shape.t, row);
+    fill_weights(shares.shape, row);
     let mut left = shares.shape.d;
     for m in 0..shares.shape.t {
         if left == 0 {
@@ -170,27 +171,26 @@ fn factorial(n: usize) -> u16
 }
 
 // The weight of member i for the value at 0: that of the next member, scaled. The last member has none.
-fn zero_weight(t: usize, n: usize, scale: u16, i: usize) -> u16
-    requires { (1 ≤ t) × (t ≤ 15) × (n ≡ size t) × (i < n) }
-    ensures { result ≡ cond (ltb (suc i) n) (product scale (weight_of n (suc i))) 0 }
+fn zero_weight(shape: Shape, scale: u16, i: usize) -> u16
+    requires { i < shape.n }
+    ensures { result ≡ cond (ltb (suc i) shape.n) (product scale (weight_of shape.n (suc i))) 0 }
 {
     let next = i + 1;
-    if n <= next {
+    if shape.n <= next {
         return 0;
     }
-    field::multiply(scale, weight(t, next))
+    field::multiply(scale, weight(shape.t, next))
 }
 
 // The weights of a station's members for the value at 0.
-#[tactic(auto, using(lists::proofs::Loops::writes))]
-fn fill_zero_weights(t: usize, row: &mut [u16])
-    requires { (1 ≤ t) × (t ≤ 15) × (length row.old ≡ size t) }
-    ensures { row.new ≡ tab (size t) (zero_weight (size t)) }
+#[tactic(auto, using(lists::proofs::Loops::writes, crate::proofs::Turns::zero_row))]
+fn fill_zero_weights(shape: Shape, row: &mut [u16])
+    requires { length row.old ≡ shape.n }
+    ensures { row.new ≡ tab shape.n (zero_weight shape.n) }
 {
-    let n = row.len();
-    let scale = field::multiply(65520, factorial(n - 1));
+    let scale = field::multiply(65520, factorial(shape.n - 1));
     for (i, entry) in row.iter_mut().enumerate() {
-        *entry = zero_weight(t, n, scale, i);
+        *entry = zero_weight(shape, scale, i);
     }
 }
 
@@ -201,7 +201,7 @@ fn look_by_rows(shares: &Shares, row: &mut [u16], sums: &mut Halves, secret: &mu
     ensures secret_after { secret.new ≡ with_values shares.now.shape.t result (words shares.now) secret.old }
 {
     let left = count_balanced(shares, row, sums);
-    fill_zero_weights(shares.shape.t, row);
+    fill_zero_weights(shares.shape, row);
     sums.sum_row(shares, row);
     sums.store_values(&mut secret[..left]);
     left

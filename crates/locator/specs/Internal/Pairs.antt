@@ -6,7 +6,6 @@ use Rattle.field.specs.Field.{sum, difference, product}
 use Rattle.polynomial.specs.Polynomial.{value}
 use Rattle.members.specs.Members.{has}
 use Rattle.locator.specs.declared.Pair.{Pair}
-use Rattle.locator.specs.declared.Pairs.{Pairs}
 
 -- c + (X − x) · f without its last coefficient, which is 0 wherever this is used
 unfoldable pub raised : ℕ → ℕ → List ℕ → List ℕ
@@ -81,7 +80,9 @@ pub record Advanced (x dp dq : ℕ) (p q p' q' : Pair) : Type 0 where
   pub raised_e : p'.e ≡ raised x 0 p.e
   pub freed_n : q'.n ≡ mixed dp q.n (difference 0 dq) p.n
   pub freed_e : q'.e ≡ mixed dp q.e (difference 0 dq) p.e
+  pub degree_up : p'.degree ≡ suc p.degree
+  pub degree_kept : q'.degree ≡ q.degree
 
--- the two pairs and their degrees, as the code keeps them
-abbrev pub state_of : Pairs → State
-state_of s = record { n0 = s.first.n; e0 = s.first.e; n1 = s.second.n; e1 = s.second.e; a = s.first_degree; b = s.second_degree }
+-- the two pairs, as the code keeps them
+abbrev pub state_of : Pair → Pair → State
+state_of p q = record { n0 = p.n; e0 = p.e; n1 = q.n; e1 = q.e; a = p.degree; b = q.degree }

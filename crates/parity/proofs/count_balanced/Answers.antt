@@ -5,7 +5,7 @@ use Rattle.parity.proofs.Turns.{balancing_first, balancing_few, balancing_next, 
 use Rattle.parity.proofs.count_balanced.Goals as goal
 
 pub loop-m-init : goal.loop-m-init
-loop-m-init c = balancing_first _ _ _ _ c.fill_weights.ensures
+loop-m-init c = balancing_first _ _ _ _ _ c.args.shares.now.shape.members c.fill_weights.ensures
 
 pub returns-then-left-eq0 : goal.returns-then-left-eq0
 returns-then-left-eq0 c = balancing_none _ _ _ _ _ _ c.loop-m.invariant c.if-left-eq0.true

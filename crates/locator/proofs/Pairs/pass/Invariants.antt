@@ -6,6 +6,7 @@ use Rattle.locator.proofs.Pairs.pass.Given as goal
 
 abbrev pub invariant-loop-i : goal.invariant-loop-i
 invariant-loop-i l = record {
-  degrees : l.self.first_degree + l.self.second_degree ≤ l.i;
-  so_far : state_of l.self ≡ passed l.points l.t (λ k. get_or l.values k 0) l.set 31 l.i;
+  same_t : l.self.t ≡ l.initial.self.t;
+  degrees : l.self.first.degree + l.self.second.degree ≤ l.i;
+  so_far : state_of l.self.first l.self.second ≡ passed l.points l.initial.self.t (λ k. get_or l.values k 0) l.set 31 l.i;
 }
