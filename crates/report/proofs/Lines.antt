@@ -16,9 +16,9 @@ use Rattle.text.proofs.Writing.{written_front, written_count}
 use Rattle.report.specs.Report.{word_line, report, Reported}
 
 -- any number has at most 10 digits
-pub open_short : (a b : ℕ) → a < 4294967296 → b < 4294967296 → length (line (ascii "OPEN") (a ∷ b ∷ [])) ≤ 27
+pub open_short : {l m : List ℕ} {at end a b : ℕ} → Written l at (line (ascii "OPEN") (a ∷ b ∷ [])) m end → a < 4294967296 → b < 4294967296 → end ≤ at + 27
 unfolding ascii
-open_short a b p q = omega (arith, length-line (ascii "OPEN") a b, field_short a p, field_short b q)
+open_short {a = a} {b = b} w p q = omega (arith, w.next, length-line (ascii "OPEN") a b, field_short a p, field_short b q)
 
 -- the line of the word at place k, as the code writes it
 pub word-line : (secret : List ℕ) (k : ℕ) → line (ascii "WORD") ((k + 1) ∷ get_or secret k 0 ∷ []) ≡ word_line secret k
