@@ -87,8 +87,8 @@ fn link(i: usize) -> u32 {
 
 // A chain of votes whose first member has the votes that are given.
 fn chain(rows: &mut [u32; 31], first: u32) {
-    for i in 0..31usize {
-        rows[i] = link(i);
+    for (i, row) in rows.iter_mut().enumerate() {
+        *row = link(i);
     }
     rows[0] = first;
 }
