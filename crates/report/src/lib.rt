@@ -1,4 +1,4 @@
-// What the program `opening` prints for a text: the two answers, and the whole.
+// What a text opens to, and what the program `opening` prints for it.
 #![tactic(auto)]
 
 ghost use Rattle.std.specs.Prelude.{◌≡◌, [], ◌∷◌, ◌+◌, ◌*◌, ◌≤◌, length};
@@ -12,7 +12,7 @@ use reconstruction::{Opened, Unopened};
 use shares::Shape;
 use text::Output;
 
-// A secret that a text opens to: who survived and who agrees, and the shape, by which it has d words.
+// A secret that was opened: who survived and who agrees, and the station's shape, by which the secret has d words.
 #[derive(Clone, Copy)]
 struct Secret {
     opened: Opened,
@@ -44,7 +44,8 @@ fn open_text(
     Ok(Secret { opened, shape })
 }
 
-// The line of a word, at its place counted from 1.
+// The line of a word, at its place counted from 1. No type holds the room that is asked for here and below: it is used up as lines are written.
+#[tactic(auto, using(crate::proofs::Lines::lengths), unfolding(lists::specs::Ascii::ascii))]
 fn put_word_line(place: usize, word: u16, output: &mut Output)
     requires { (place ≤ 64) × (output.old.end + 14 ≤ length output.old.bytes.now) }
     ensures same_reference { output.new.bytes.ghost_name ≡ output.old.bytes.ghost_name }
@@ -64,16 +65,17 @@ fn put_words(secret: &[u16], output: &mut Output)
     }
 }
 
-// The lines of an answer: at most 27 bytes, and 14 for each word. The room is used up as lines are written, so no type holds it.
-fn put_answer(answer: Result<Secret, Unopened>, words: &[u16; 64], output: &mut Output)
+// The lines of an answer, whose secret is at the front of the buffer: at most 27 bytes, and 14 for each word.
+#[tactic(auto, using(crate::proofs::Lines::lengths), unfolding(lists::specs::Ascii::ascii, crate::specs::Internal::Printing::answer_lines))]
+fn put_answer(answer: Result<Secret, Unopened>, buffer: &[u16; 64], output: &mut Output)
     requires { output.old.end + 1024 ≤ length output.old.bytes.now }
     ensures same_reference { output.new.bytes.ghost_name ≡ output.old.bytes.ghost_name }
-    ensures written { Written output.old.bytes.now output.old.end (answer_lines answer words.now) output.new.bytes.now output.new.end }
+    ensures written { Written output.old.bytes.now output.old.end (answer_lines answer buffer.now) output.new.bytes.now output.new.end }
 {
     match answer {
         Ok(secret) => {
             output.put_line(b"OPEN", secret.opened.survivors, secret.opened.agreeing);
-            put_words(&words[..secret.shape.d], output);
+            put_words(&buffer[..secret.shape.d], output);
         }
         Err(why) => output.put_line(b"REFUSED", u16::from(why.refusal) as u32, why.survivors),
     }

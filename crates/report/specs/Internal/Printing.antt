@@ -15,5 +15,5 @@ word_lines secret = concat (tab (length secret) (word_line secret))
 
 -- the lines of an answer, with the secret at the front of its buffer
 unfoldable pub answer_lines : Result Secret Unopened → List ℕ → List ℕ
-answer_lines (Ok a) words = line (ascii "OPEN") (a.opened.survivors ∷ a.opened.agreeing ∷ []) ++ word_lines (take a.shape.d words)
-answer_lines (Err why) words = line (ascii "REFUSED") (number why.refusal ∷ why.survivors ∷ [])
+answer_lines (Ok a) buffer = line (ascii "OPEN") (a.opened.survivors ∷ a.opened.agreeing ∷ []) ++ word_lines (take a.shape.d buffer)
+answer_lines (Err why) buffer = line (ascii "REFUSED") (number why.refusal ∷ why.survivors ∷ [])
