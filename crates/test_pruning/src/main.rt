@@ -26,12 +26,7 @@ fn weak(need: u32, row: u32, set: u32, i: usize) -> bool {
 fn last_weak<const N: usize>(need: u32, rows: &[u32; N], set: u32) -> Option<usize>
     ensures { IfSome result (λ i. i < N) }
 {
-    for i in (0..N).rev() {
-        if weak(need, rows[i], set, i) {
-            return Some(i);
-        }
-    }
-    None
+    (0..N).rev().find(|i| weak(need, rows[*i], set, *i))
 }
 
 // The sets of three members in which nobody is weak, joined.
