@@ -2,4 +2,3 @@
 pub mod Examples
 pub mod Lines
 pub mod Opening
-pub mod Reading

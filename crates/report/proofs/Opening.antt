@@ -1,42 +1,71 @@
--- What opening's answer prints.
+-- The lines of what a text opens to are what is printed for the text.
 -- Assumes nothing.
-use mathlib.Core.Path.{◌≡◌, sym, ap, ◌∙◌}
-use mathlib.Core.Bool.{Bool, true, false}
-use mathlib.Core.List.{List, [], ◌∷◌, ◌++◌}
-use Prim.Native.Nat.{ℕ}
-use lib.ListN.{length}
-use Rattle.std.specs.Prelude.{Result, Ok, Err}
+use Rattle.std.proofs.Common.{◌≡◌, refl, sym, ap, ◌∙◌, ℕ, ◌*◌, eqb, true, false, List, [], ◌∷◌, ◌++◌, length, take, Result, Ok, Err, arith}
+use Rattle.std.specs.Result.{MatchResult}
+use Rattle.std.proofs.lemmas.List.{take-append-le, take_all}
 use Rattle.lists.specs.Ascii.{ascii}
-use Rattle.lists.specs.Tabulate.{tab, concat}
+use Rattle.refusals.specs.declared.Refusal.{Refusal}
 use Rattle.refusals.specs.Refusals.{number}
+use Rattle.shares.specs.Layout.{capacity}
+use Rattle.shares.specs.declared.Shape.{Shape}
+use Rattle.shares.specs.Internal.Shape.{InRange}
 use Rattle.reconstruction.specs.Reconstruction.{Answered, reconstruct}
 use Rattle.reconstruction.specs.Answer.{answer_of, answered_of}
 use Rattle.reconstruction.specs.declared.Opened.{Opened}
 use Rattle.reconstruction.specs.declared.Reconstructed.{Reconstructed}
 use Rattle.reconstruction.specs.declared.Unopened.{Unopened}
+use Rattle.handin.specs.Reader.{read}
+use Rattle.handin.specs.Answer.{answer_of as read_of}
+use Rattle.handin.specs.declared.HandIn.{HandIn}
 use Rattle.text.specs.Lines.{line}
-use Rattle.report.specs.Report.{word_line, print_opened}
-use Rattle.report.specs.Internal.Printing.{word_lines, opening}
+use Rattle.report.specs.Report.{print_opened, print_read, report}
+use Rattle.report.specs.Internal.Printing.{word_lines, answer_lines}
 use Rattle.refusals.proofs.Numbers.{numbered}
+use Rattle.handin.proofs.Sound.{sound}
 
--- one arm of what is printed
-pub picked : {b c : Bool} (opened refused : List ℕ) → b ≡ c
-    → ◌≡◌ {A = List ℕ} (elim c [ true ↦ opened | false ↦ refused ]) (elim b [ true ↦ opened | false ↦ refused ])
-picked opened refused e = sym (ap (λ (b : Bool). elim b [ true ↦ opened | false ↦ refused ]) e)
+-- a refusal's line is printed, whatever would be otherwise
+refused : (k : Refusal) (opened : List ℕ) (survivors : ℕ) → let told : List ℕ = line (ascii "REFUSED") (number k ∷ survivors ∷ []) in
+    told ≡ elim (eqb (number k) 0) [ true ↦ opened | false ↦ told ]
+refused k opened survivors = rw (numbered k) refl
 
-module _ (t d day present quorum : ℕ) (words secret : List ℕ) (r : Reconstructed) (answers : answered_of r secret ≡ reconstruct t d day present quorum words) where
-  answered : (o : Result Opened Unopened) → r.outcome ≡ o → answer_of o secret ≡ (reconstruct t d day present quorum words).opened
-  answered o e = ap (λ (o : Result Opened Unopened). answer_of o secret) (sym e) ∙ ap (λ (a : Answered). a.opened) answers
+-- what is handed on as the reader's answer is that answer
+was_read : (r : Result HandIn Refusal) (h : HandIn) → MatchResult r (λ x. ◌≡◌ {A = Result HandIn Unopened} (Ok h) (Ok x)) (λ _. ⊥) → r ≡ Ok h
+was_read (Ok x) h e = cc
+was_read (Err k) h impossible = absurd impossible
 
-  pub prints_open : (sets : Opened) → r.outcome ≡ Ok sets → length secret ≡ d
-      → line (ascii "OPEN") (sets.survivors ∷ sets.agreeing ∷ []) ++ word_lines secret ≡ opening t d day present quorum words
-  unfolding opening print_opened word_lines
-  prints_open sets e long =
-      ap (λ (n : ℕ). line (ascii "OPEN") (sets.survivors ∷ sets.agreeing ∷ []) ++ concat (tab n (word_line secret))) long
-      ∙ ap (print_opened d) (answered (Ok sets) e)
+module _ (text words : List ℕ) (len : ℕ) (full : len ≡ capacity) where
+  -- the reader's refusal
+  pub unread_lines : (r : Result HandIn Refusal) (why : Unopened) (secret : List ℕ)
+      → MatchResult r (λ h. ◌≡◌ {A = Result HandIn Unopened} (Err why) (Ok h)) (λ k. why ≡ record { refusal = k; survivors = 0 })
+      → read_of r words ≡ read text len → answer_lines (Err why) secret ≡ report text
+  unfolding answer_lines report print_read read_of
+  unread_lines (Ok h) why secret impossible answers = absurd cc
+  unread_lines (Err k) why secret e answers = rw e (refused k _ 0 ∙ ap print_read (answers ∙ ap (read text) full))
 
-  pub prints-refused : (why : Unopened) → r.outcome ≡ Err why → line (ascii "REFUSED") (number why.refusal ∷ why.survivors ∷ []) ≡ opening t d day present quorum words
-  unfolding opening print_opened
-  prints-refused why e =
-      picked (line (ascii "OPEN") (why.survivors ∷ 0 ∷ []) ++ concat (tab d (word_line secret))) (line (ascii "REFUSED") (number why.refusal ∷ why.survivors ∷ [])) (numbered why.refusal)
-      ∙ ap (print_opened d) (answered (Err why) e)
+  module _ (r : Result HandIn Refusal) (h : HandIn) (handed : MatchResult r (λ x. ◌≡◌ {A = Result HandIn Unopened} (Ok h) (Ok x)) (λ _. ⊥))
+      (answers : read_of r words ≡ read text len) where
+    pub accepted_range : InRange h.t h.d
+    unfolding read_of
+    accepted_range = (rw (← answers, was_read r h handed) at (sound len text)).ranged refl
+
+    module _ (s : Shape) (same_t : s.t ≡ h.t) (same_d : s.d ≡ h.d) (room secret : List ℕ) (long : length room ≡ h.d) (o : Reconstructed)
+        (opens : answered_of o secret ≡ reconstruct h.t (length room) h.day h.present h.quorum (take (s.n * s.width) words)) where
+      printed : (a : Result Opened Unopened) → o.outcome ≡ a → print_opened h.d (answer_of a secret) ≡ report text
+      unfolding report print_read read_of
+      printed a e =
+          ap (λ (a : Result Opened Unopened). print_opened h.d (answer_of a secret)) (sym e)
+          ∙ ap (λ (a : Answered). print_opened h.d a.opened) (rw (long, s.members, s.share, same_t, same_d) at opens)
+          ∙ ap print_read (rw (was_read r h handed) at answers ∙ ap (read text) full)
+
+      -- the secret, at the front of a longer buffer
+      pub opened_lines : (sets : Opened) (rest : List ℕ) → o.outcome ≡ Ok sets → length secret ≡ length room
+          → answer_lines (Ok (record { opened = sets; shape = s })) (secret ++ rest) ≡ report text
+      unfolding answer_lines word_lines print_opened
+      opened_lines sets rest e all =
+          let front : take s.d (secret ++ rest) ≡ secret = take-append-le s.d secret rest (omega arith) ∙ take_all s.d secret (omega arith) in
+          let d : length secret ≡ h.d = all ∙ long in
+          rw (front, d) (printed (Ok sets) e)
+
+      pub unopened_lines : (why : Unopened) (rest : List ℕ) → o.outcome ≡ Err why → answer_lines (Err why) rest ≡ report text
+      unfolding answer_lines print_opened
+      unopened_lines why rest e = refused why.refusal _ why.survivors ∙ printed (Err why) e

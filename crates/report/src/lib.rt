@@ -1,23 +1,51 @@
-// What the program `opening` prints for a text: the two answers, and the whole.
+// What a text opens to, and what the program `opening` prints for it.
 #![tactic(auto)]
 
-ghost use Rattle.std.specs.Prelude.{◌≡◌, [], ◌∷◌, ◌++◌, ◌+◌, ◌*◌, ◌≤◌, length, take};
+ghost use Rattle.std.specs.Prelude.{◌≡◌, [], ◌∷◌, ◌+◌, ◌*◌, ◌≤◌, length};
 ghost use Rattle.lists.specs.Ascii.{ascii};
-ghost use Rattle.members.specs.Members.{size};
-ghost use Rattle.shares.specs.Layout.{width};
-ghost use Rattle.shares.specs.Internal.Shape.{InRange};
-ghost use Rattle.refusals.specs.Refusals.{number};
 ghost use Rattle.text.specs.Lines.{line};
 ghost use Rattle.text.specs.Internal.Writing.{Written};
 ghost use Rattle.report.specs.Report.{report, Reported};
-ghost use Rattle.report.specs.Internal.Printing.{word_lines, opening};
+ghost use Rattle.report.specs.Internal.Printing.{word_lines, answer_lines};
 
-use handin::HandIn;
-use refusals::Refusal;
+use reconstruction::{Opened, Unopened};
 use shares::Shape;
 use text::Output;
 
-// The line of a word, at its place counted from 1.
+// A secret that was opened: who survived and who agrees, and the station's shape, by which the secret has d words.
+#[derive(Clone, Copy)]
+struct Secret {
+    opened: Opened,
+    shape: Shape,
+}
+
+// What a text opens to, with the secret at the front of its buffer; or the refusal, of the reader or of opening, and the survivors.
+fn open_text(
+    text: &[u8],
+    words: &mut [u16; 4867],
+    secret: &mut [u16; 64],
+) -> Result<Secret, Unopened>
+    ensures { answer_lines result secret.new ≡ report text.now }
+{
+    let hand_in = handin::read(text, words).map_err(|refusal| Unopened {
+        refusal,
+        survivors: 0,
+    })?;
+    let shape = Shape::new(hand_in.t, hand_in.d);
+    let answer = reconstruction::reconstruct(
+        hand_in.t,
+        hand_in.day,
+        hand_in.present,
+        hand_in.quorum,
+        &words[..shape.n * shape.width],
+        &mut secret[..hand_in.d],
+    );
+    let opened = answer.outcome?;
+    Ok(Secret { opened, shape })
+}
+
+// The line of a word, at its place counted from 1. No type holds the room that is asked for here and below: it is used up as lines are written.
+#[tactic(auto, using(crate::proofs::Lines::lengths), unfolding(lists::specs::Ascii::ascii))]
 fn put_word_line(place: usize, word: u16, output: &mut Output)
     requires { (place ≤ 64) × (output.old.end + 14 ≤ length output.old.bytes.now) }
     ensures same_reference { output.new.bytes.ghost_name ≡ output.old.bytes.ghost_name }
@@ -37,70 +65,19 @@ fn put_words(secret: &[u16], output: &mut Output)
     }
 }
 
-// A secret that was opened.
-fn put_open(survivors: u32, agreeing: u32, secret: &[u16], output: &mut Output)
-    requires { (length secret.now ≤ 64) × (output.old.end + 1024 ≤ length output.old.bytes.now) }
-    ensures same_reference { output.new.bytes.ghost_name ≡ output.old.bytes.ghost_name }
-    ensures written { Written output.old.bytes.now output.old.end (line (ascii "OPEN") (survivors ∷ agreeing ∷ []) ++ word_lines secret.now) output.new.bytes.now output.new.end }
-{
-    output.put_line(b"OPEN", survivors, agreeing);
-    put_words(secret, output);
-}
-
-// A refusal, of the reader or of opening.
-fn put_refused(refusal: Refusal, survivors: u32, output: &mut Output)
+// The lines of an answer, whose secret is at the front of the buffer: at most 27 bytes, and 14 for each word.
+#[tactic(auto, using(crate::proofs::Lines::lengths), unfolding(lists::specs::Ascii::ascii, crate::specs::Internal::Printing::answer_lines))]
+fn put_answer(answer: Result<Secret, Unopened>, buffer: &[u16; 64], output: &mut Output)
     requires { output.old.end + 1024 ≤ length output.old.bytes.now }
     ensures same_reference { output.new.bytes.ghost_name ≡ output.old.bytes.ghost_name }
-    ensures written { Written output.old.bytes.now output.old.end (line (ascii "REFUSED") (number refusal ∷ survivors ∷ [])) output.new.bytes.now output.new.end }
+    ensures written { Written output.old.bytes.now output.old.end (answer_lines answer buffer.now) output.new.bytes.now output.new.end }
 {
-    output.put_line(b"REFUSED", u16::from(refusal) as u32, survivors);
-}
-
-// Opens shares into a secret buffer, and prints the answer.
-fn open_shares(hand_in: HandIn, shares: &[u16], secret: &mut [u16], output: &mut Output)
-    requires { (length secret.old ≤ 64) × (output.old.end + 1024 ≤ length output.old.bytes.now) }
-    ensures same_reference { output.new.bytes.ghost_name ≡ output.old.bytes.ghost_name }
-    ensures written { Written output.old.bytes.now output.old.end
-        (opening hand_in.t (length secret.old) hand_in.day hand_in.present hand_in.quorum shares.now) output.new.bytes.now output.new.end }
-{
-    let answer = reconstruction::reconstruct(
-        hand_in.t,
-        hand_in.day,
-        hand_in.present,
-        hand_in.quorum,
-        shares,
-        secret,
-    );
-    match answer.outcome {
-        Ok(opened) => put_open(opened.survivors, opened.agreeing, secret, output),
-        Err(why) => put_refused(why.refusal, why.survivors, output),
-    }
-}
-
-// Opens the shares of a text that was read: as many words at the front of the reader's buffer as all shares have.
-fn open_words(hand_in: HandIn, words: &[u16; 4867], secret: &mut [u16; 64], output: &mut Output)
-    requires in_range { InRange hand_in.t hand_in.d }
-    requires room { output.old.end + 1024 ≤ length output.old.bytes.now }
-    ensures same_reference { output.new.bytes.ghost_name ≡ output.old.bytes.ghost_name }
-    ensures written { Written output.old.bytes.now output.old.end
-        (opening hand_in.t hand_in.d hand_in.day hand_in.present hand_in.quorum (take (size hand_in.t * width hand_in.t hand_in.d) words.now))
-        output.new.bytes.now output.new.end }
-{
-    let d = hand_in.d;
-    let s = Shape::new(hand_in.t, d);
-    let count = s.n * s.width;
-    open_shares(hand_in, &words[..count], &mut secret[..d], output);
-}
-
-// Reads a text, and prints the answer.
-fn print_text(text: &[u8], words: &mut [u16; 4867], secret: &mut [u16; 64], output: &mut Output)
-    requires { output.old.end + 1024 ≤ length output.old.bytes.now }
-    ensures same_reference { output.new.bytes.ghost_name ≡ output.old.bytes.ghost_name }
-    ensures written { Written output.old.bytes.now output.old.end (report text.now) output.new.bytes.now output.new.end }
-{
-    match handin::read(text, words) {
-        Ok(hand_in) => open_words(hand_in, words, secret, output),
-        Err(refusal) => put_refused(refusal, 0, output),
+    match answer {
+        Ok(secret) => {
+            output.put_line(b"OPEN", secret.opened.survivors, secret.opened.agreeing);
+            put_words(&buffer[..secret.shape.d], output);
+        }
+        Err(why) => output.put_line(b"REFUSED", u16::from(why.refusal) as u32, why.survivors),
     }
 }
 
@@ -111,7 +88,8 @@ pub fn report(text: &[u8], output: &mut [u8; 1024]) -> usize
 {
     let mut words = [0u16; 4867];
     let mut secret = [0u16; 64];
+    let answer = open_text(text, &mut words, &mut secret);
     let mut printed = Output::new(output);
-    print_text(text, &mut words, &mut secret, &mut printed);
+    put_answer(answer, &secret, &mut printed);
     printed.end()
 }

@@ -1,11 +1,14 @@
 // Words of a fixed sequence, on which the test programs run, and how they print words.
 #![tactic(auto)]
 
-ghost use Rattle.std.specs.Prelude.{◌≡◌, ℕ, ◌+◌, ◌*◌, ◌%◌, ◌<◌, ◌^◌, ◌++◌, length, flat_map, Some};
+ghost use Rattle.std.specs.Prelude.{◌≡◌, ℕ, ◌+◌, ◌*◌, ◌%◌, ◌<◌, ◌^◌, ◌++◌, length, flat_map, Some, IfOk, IfSome, OnOk};
 ghost use Rattle.std.specs.Fmt.{decimal};
+ghost use Rattle.std.specs.Io.KnownBytes.{IsAtEnd};
 ghost use Rattle.samples.specs.Internal.Iterated.{iterated};
 
-use std::fmt;
+use std::alloc::Global;
+use std::io::Read;
+use std::{fmt, io};
 
 // The next word of a fixed sequence.
 pub fn next(x: u16) -> u16
@@ -40,4 +43,14 @@ impl fmt::Display for Spaced<'_> {
         }
         Ok(())
     }
+}
+
+// All that a reader has left. The test programs that read standard input by it show that it can succeed.
+pub fn read_all<R: Read>(alloc: Global, reader: &mut R) -> io::Result<Vec<u8>>
+    ensures bytes { IfOk result (λ v. IfSome (R.remaining reader.old) (λ bytes. v.items ≡ bytes)) }
+    ensures end { OnOk result (IsAtEnd (R.remaining reader.new)) }
+{
+    let mut bytes = Vec::new(alloc);
+    reader.read_to_end(&mut bytes)?;
+    Ok(bytes)
 }

@@ -20,46 +20,59 @@ fn values_of(f: &[u16], set: u32, values: &mut [u16]) {
     }
 }
 
-// Makes the value of member i of the set wrong, by the value of another polynomial or by a small difference; how many errors are left.
-// `far` is a bool, since cases are given as a table of plain values, and a closure for each would be longer.
-fn spoil_one(g: &[u16], set: u32, values: &mut [u16], i: usize, far: bool, left: usize) -> usize {
+// What a wrong value is: that of one other polynomial, or a little more than the right one.
+#[derive(Clone, Copy)]
+enum Wrong {
+    OnAnother,
+    ByLittle,
+}
+
+// Makes the value of member i of the set wrong; how many errors are left.
+fn spoil_one(
+    g: &[u16],
+    set: u32,
+    values: &mut [u16],
+    i: usize,
+    wrong: Wrong,
+    left: usize,
+) -> usize {
     if left == 0 || values.len() <= i || !members::has(set, i) {
         return left;
     }
-    if far {
-        values[i] = polynomial::evaluate(g, (i % 31 + 1) as u16);
-        return left - 1;
-    }
-    values[i] = field::add(values[i], (i % 31 + 1) as u16);
+    let x = (i % 31 + 1) as u16;
+    values[i] = match wrong {
+        Wrong::OnAnother => polynomial::evaluate(g, x),
+        Wrong::ByLittle => field::add(values[i], x),
+    };
     left - 1
 }
 
 // Makes the values of so many members of the set wrong: every second member, from `from` on, round.
-fn spoil(g: &[u16], set: u32, values: &mut [u16], errors: usize, from: usize, far: bool) {
+fn spoil(g: &[u16], set: u32, values: &mut [u16], errors: usize, from: usize, wrong: Wrong) {
     let n = values.len();
     let mut left = errors;
     for k in 0..n {
-        left = spoil_one(g, set, values, (2 * (k % 31) + from % 31) % n, far, left);
+        left = spoil_one(g, set, values, (2 * (k % 31) + from % 31) % n, wrong, left);
     }
 }
 
-// A word to decode: how many of the set's members have a wrong value, what it is made from, and whether the wrong values lie on one other polynomial.
+// A word to decode: how many of the set's members have a wrong value, what it is made from, and what its wrong values are.
 #[derive(Clone, Copy)]
 struct Case {
     t: usize,
     set: u32,
     errors: usize,
     seed: u16,
-    far: bool,
+    wrong: Wrong,
 }
 
-fn case_of(t: usize, set: u32, errors: usize, seed: u16, far: bool) -> Case {
+fn case_of(t: usize, set: u32, errors: usize, seed: u16, wrong: Wrong) -> Case {
     Case {
         t,
         set,
         errors,
         seed,
-        far,
+        wrong,
     }
 }
 
@@ -78,7 +91,7 @@ fn run(
     fill(f, seed, next);
     fill(g, next(seed), next);
     values_of(f, set, values);
-    spoil(g, set, values, case.errors, seed as usize, case.far);
+    spoil(g, set, values, case.errors, seed as usize, case.wrong);
     let number = number_of(decoding::decode(t, values, set, out));
     let words = Spaced(out, "\t");
     println!(rt; "{t}\t{set}\t{}\t{number}\t{words}", case.errors)
@@ -113,11 +126,11 @@ fn words(rt: &impl Print, t: usize, set: u32, seed: u16) -> io::Result<()> {
     }
     let half = (s - t - 1) / 2;
     let too_many = half + 1;
-    word(rt, case_of(t, set, 0, seed, false))?;
-    word(rt, case_of(t, set, half, next(seed), false))?;
-    word(rt, case_of(t, set, half, next(seed), true))?;
-    word(rt, case_of(t, set, too_many, seed, false))?;
-    word(rt, case_of(t, set, too_many, seed, true))
+    word(rt, case_of(t, set, 0, seed, Wrong::ByLittle))?;
+    word(rt, case_of(t, set, half, next(seed), Wrong::ByLittle))?;
+    word(rt, case_of(t, set, half, next(seed), Wrong::OnAnother))?;
+    word(rt, case_of(t, set, too_many, seed, Wrong::ByLittle))?;
+    word(rt, case_of(t, set, too_many, seed, Wrong::OnAnother))
 }
 
 // All n members, and some of them.

@@ -7,7 +7,6 @@ ghost use Rattle.std.specs.Prelude.{◌<◌};
 use handin::HandIn;
 use refusals::number_of;
 use std::io;
-use std::io::Read;
 
 // `u64::from` with its bound, which the sum below needs and an edit spoils.
 fn wide(word: u16) -> u64
@@ -39,8 +38,7 @@ fn reads(rt: &impl Print, text: &[u8], words: &mut [u16]) -> io::Result<()> {
 
 // The text on standard input: 31 shares of 157 five-digit words.
 fn largest(rt: &(impl Print + Input + AllocGlobal), words: &mut [u16]) -> io::Result<()> {
-    let mut text = Vec::new(rt.alloc());
-    rt.reader().read_to_end(&mut text)?;
+    let text = samples::read_all(rt.alloc(), &mut rt.reader())?;
     reads(rt, &text, words)
 }
 

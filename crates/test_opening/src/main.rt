@@ -2,7 +2,6 @@
 #![tactic(auto)]
 
 use std::io;
-use std::io::Read;
 
 fn prints(rt: &impl Print, text: &[u8]) -> io::Result<()> {
     let mut output = [7u8; 1024];
@@ -12,8 +11,7 @@ fn prints(rt: &impl Print, text: &[u8]) -> io::Result<()> {
 
 // The text on standard input: t = 15, d = 64, and 30 shares of which 28 survive.
 fn largest(rt: &(impl Print + Input + AllocGlobal)) -> io::Result<()> {
-    let mut text = Vec::new(rt.alloc());
-    rt.reader().read_to_end(&mut text)?;
+    let text = samples::read_all(rt.alloc(), &mut rt.reader())?;
     prints(rt, &text)
 }
 

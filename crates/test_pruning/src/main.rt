@@ -26,12 +26,7 @@ fn weak(need: u32, row: u32, set: u32, i: usize) -> bool {
 fn last_weak<const N: usize>(need: u32, rows: &[u32; N], set: u32) -> Option<usize>
     ensures { IfSome result (λ i. i < N) }
 {
-    for i in (0..N).rev() {
-        if weak(need, rows[i], set, i) {
-            return Some(i);
-        }
-    }
-    None
+    (0..N).rev().find(|i| weak(need, rows[*i], set, *i))
 }
 
 // The sets of three members in which nobody is weak, joined.
@@ -87,8 +82,8 @@ fn link(i: usize) -> u32 {
 
 // A chain of votes whose first member has the votes that are given.
 fn chain(rows: &mut [u32; 31], first: u32) {
-    for i in 0..31usize {
-        rows[i] = link(i);
+    for (i, row) in rows.iter_mut().enumerate() {
+        *row = link(i);
     }
     rows[0] = first;
 }
