@@ -30,13 +30,13 @@ module _ (t d : ℕ) (s : Shape) (es : (s.t ≡ t) × (s.d ≡ d)) where
     pub right_length : length words ≡ s.n * s.width → eqb (length words) (size t * width t d) ≡ true
     right_length h = eq-eqb (length words) (size t * width t d) (h ∙ all_words)
 
-  module _ (range : InRange t d) (present f : ℕ) (ef : f ≡ first_of s.n) where
-    tested : leb present f ≡ is_set (size t) present
+  module _ (range : InRange t d) (present : ℕ) where
+    tested : leb present (first_of s.n) ≡ is_set (size t) present
     tested =
-        ap (leb present) (ef ∙ ap first_of (s.members ∙ ap size es.0)) ∙ first_of-is_set (size t) present (omega (arith, size_31 t range.t_high))
+        ap (λ (n : ℕ). leb present (first_of n)) (s.members ∙ ap size es.0) ∙ first_of-is_set (size t) present (omega (arith, size_31 t range.t_high))
 
-    pub beyond_n : f < present → is_set (size t) present ≡ false
-    beyond_n h = sym tested ∙ lt-leb present f h
+    pub beyond_n : first_of s.n < present → is_set (size t) present ≡ false
+    beyond_n h = sym tested ∙ lt-leb present (first_of s.n) h
 
-    pub within_n : present ≤ f → is_set (size t) present ≡ true
-    within_n h = sym tested ∙ le-leb present f h
+    pub within_n : present ≤ first_of s.n → is_set (size t) present ≡ true
+    within_n h = sym tested ∙ le-leb present (first_of s.n) h
