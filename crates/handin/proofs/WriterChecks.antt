@@ -12,10 +12,8 @@ use Rattle.std.specs.Prelude.{Ok, Err}
 use Rattle.members.specs.Members.{size, first_of}
 use Rattle.shares.specs.Layout.{width}
 use Rattle.shares.specs.Internal.FirstChecks.{Passed, Refused}
-use Rattle.shares.specs.Internal.Shape.{InRange}
 use Rattle.shares.specs.declared.Shape.{Shape}
 use Rattle.shares.proofs.FirstChecks.{refused_first}
-use Rattle.shares.proofs.Shapes.{in_range}
 use Rattle.shares.proofs.Tests.{wrong_length, right_length, beyond_n, within_n}
 use Rattle.text.specs.Internal.Writing.{Written}
 use Rattle.text.proofs.Writing.{written_then, written_as, written_front, written_count}
@@ -84,28 +82,22 @@ module _ (t d quorum day present : ℕ) (words buffer : List ℕ) where
     p : Passed t d day
     p = passed.2
 
-    es : (s.t ≡ t) × (s.d ≡ d)
-    es = (passed.0, passed.1)
-
-    range : InRange t d
-    range = in_range t d p.threshold p.in_length
-
     pub wrote_11 : (length words ≡ s.n * s.width → ⊥) → written_of (Err BadInputLength) buffer ≡ write t d quorum day present words buffer
     unfolding written_of write unwritten
-    wrote_11 h = rw (p.threshold, p.in_length, p.is_a_day, wrong_length t d s es words h)
+    wrote_11 h = rw (p.threshold, p.in_length, p.is_a_day, wrong_length s passed words h)
 
     module _ (long : length words ≡ s.n * s.width) where
       right : eqb (length words) (size t * width t d) ≡ true
-      right = right_length t d s es words long
+      right = right_length s passed words long
 
       pub wrote_12 : first_of s.n < present → written_of (Err MemberBeyondN) buffer ≡ write t d quorum day present words buffer
       unfolding written_of write unwritten
-      wrote_12 h = rw (p.threshold, p.in_length, p.is_a_day, right, beyond_n t d s es range present h)
+      wrote_12 h = rw (p.threshold, p.in_length, p.is_a_day, right, beyond_n s passed present h)
 
       pub goes_on : present ≤ first_of s.n → (answer : HandInText) → answer ≡ fitted (text_of s.t s.d quorum day present words) buffer
           → answer ≡ write t d quorum day present words buffer
       unfolding write fitted
-      goes_on h answer e = e ∙ rw (es.0, es.1, p.threshold, p.in_length, p.is_a_day, right, within_n t d s es range present h)
+      goes_on h answer e = e ∙ rw (passed.0, passed.1, p.threshold, p.in_length, p.is_a_day, right, within_n s passed present h)
 
 -- for the checks as the code makes them
 pub ruleset by_check = (wrote_first, wrote_11, wrote_12, goes_on)

@@ -11,10 +11,8 @@ use Rattle.members.specs.Members.{size, own_points, is_set, first_of}
 use Rattle.shares.specs.Layout.{width, share_word}
 use Rattle.voting.specs.Votes.{usable, vote_rows, pairs}
 use Rattle.shares.specs.Internal.FirstChecks.{Passed, Refused}
-use Rattle.shares.specs.Internal.Shape.{InRange}
 use Rattle.shares.specs.declared.Shape.{Shape}
 use Rattle.shares.proofs.FirstChecks.{refused_first}
-use Rattle.shares.proofs.Shapes.{in_range}
 use Rattle.shares.proofs.Tests.{wrong_length, right_length, beyond_n, within_n}
 use Rattle.reconstruction.specs.Reconstruction.{Answered, turned_away, is_quorum, finish, checks, reconstruct}
 use Rattle.reconstruction.specs.Internal.Steps.{Accepted}
@@ -40,43 +38,37 @@ module _ (t d day present quorum : ℕ) (words : List ℕ) where
     p : Passed t d day
     p = passed.2
 
-    es : (s.t ≡ t) × (s.d ≡ d)
-    es = (passed.0, passed.1)
-
     pub refused_11 : (length words ≡ s.n * s.width → ⊥) → answered ≡ turned_away d 11
     unfolding reconstruct
-    refused_11 h = rw (p.threshold, p.in_length, p.is_a_day, wrong_length t d s es words h)
+    refused_11 h = rw (p.threshold, p.in_length, p.is_a_day, wrong_length s passed words h)
 
     module _ (long : length words ≡ s.n * s.width) where
       as_long : eqb (length words) (size t * width t d) ≡ true
-      as_long = right_length t d s es words long
-
-      range : InRange t d
-      range = in_range t d p.threshold p.in_length
+      as_long = right_length s passed words long
 
       pub refused_12 : first_of s.n < present → answered ≡ turned_away d 12
       unfolding reconstruct
-      refused_12 h = rw (p.threshold, p.in_length, p.is_a_day, as_long, beyond_n t d s es range present h)
+      refused_12 h = rw (p.threshold, p.in_length, p.is_a_day, as_long, beyond_n s passed present h)
 
       module _ (le : present ≤ first_of s.n) where
         is_a_set : is_set (size t) present ≡ true
-        is_a_set = within_n t d s es range present le
+        is_a_set = within_n s passed present le
 
         pub refused_13 : is_quorum s.t quorum ≡ false → answered ≡ turned_away d 13
         unfolding reconstruct
         refused_13 h =
-            rw (p.threshold, p.in_length, p.is_a_day, as_long, is_a_set, sym (ap (λ (m : ℕ). is_quorum m quorum) es.0) ∙ h)
+            rw (p.threshold, p.in_length, p.is_a_day, as_long, is_a_set, sym (ap (λ (m : ℕ). is_quorum m quorum) passed.0) ∙ h)
 
         pub goes_on : is_quorum s.t quorum ≡ true → Accepted t d day present quorum words s
         goes_on h =
             record {
-              of_d = es.1;
+              of_d = passed.1;
               long = long;
               opens =
                   reconstruct_finishes t d day present quorum words p.threshold p.in_length p.is_a_day
                   (eqb-true (length words) (size t * width t d) as_long) (ltb-true present (2 ^ size t) is_a_set)
-                  (sym (ap (λ (m : ℕ). is_quorum m quorum) es.0) ∙ h)
-                  ∙ sym (ap₂ opened_by es.0 es.1);
+                  (sym (ap (λ (m : ℕ). is_quorum m quorum) passed.0) ∙ h)
+                  ∙ sym (ap₂ opened_by passed.0 passed.1);
             }
 
 -- for the checks as the code makes them
