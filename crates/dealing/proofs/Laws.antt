@@ -171,9 +171,12 @@ module _ (t day : ℕ) (secret random buffer : List ℕ) where
       → deal t day secret random buffer ≡ record { number = 0; shares = dealt_shares (own_points t) t day secret random }
   in_range_accepted r =
       sym
-      (dealt t day secret random buffer (within_intro 1 15 t r.threshold_low r.threshold_high)
-      (within_intro 1 64 (length secret) r.length_low r.length_high)
-      (within_intro 1 65520 day r.day_low r.day_high)
+      (dealt t day secret random buffer
+      (record {
+        threshold = within_intro 1 15 t r.threshold_low r.threshold_high;
+        in_length = within_intro 1 64 (length secret) r.length_low r.length_high;
+        is_a_day = within_intro 1 65520 day r.day_low r.day_high;
+      })
       r.random_length_lem r.buffer_length
       (words_field r.secret_words) (words_field r.random_words) (dealt_shares (own_points t) t day secret random) refl)
 

@@ -177,8 +177,7 @@ impl Supply<'_> {
     }
 }
 
-// The checks, in their order: the shape of what is to be dealt, or the first refusal. Each of the three calls with a check of t and d writes them out, so that its
-// order and its numbers stand in sight as its definition lists them; a part for all three would hide them.
+// The checks, in their order: the shape of what is to be dealt, or the first refusal.
 #[tactic(auto, using(crate::proofs::Refusals::by_check))]
 fn check(
     t: usize,
@@ -189,18 +188,8 @@ fn check(
 ) -> Result<Shape, Refusal>
     ensures { MatchResult result (Accepted t day secret.now random.now shares.now) (λ refusal. deal_of t day secret.now random.now shares.now ≡ record { number = number refusal; shares = shares.now }) }
 {
-    if !members::threshold(t) {
-        return Err(Refusal::BadThreshold);
-    }
-    let d = secret.len();
-    if !lists::within(1, 64, d) {
-        return Err(Refusal::BadSecretLength);
-    }
-    if !shares::is_day(day) {
-        return Err(Refusal::BadDay);
-    }
-    let s = Shape::new(t, d);
-    if random.len() != t * d + 2 * (s.n * s.n) {
+    let s = Shape::check(t, secret.len(), day)?;
+    if random.len() != s.t * s.d + 2 * (s.n * s.n) {
         return Err(Refusal::BadRandomLength);
     }
     if shares.len() != s.n * s.width {

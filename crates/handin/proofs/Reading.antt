@@ -6,8 +6,9 @@ use Rattle.std.specs.Prelude.{Result, Ok, Err}
 use Rattle.std.specs.Result.{is_err}
 use mathlib.Core.Bool.{true≢false, false≢true}
 use borrow.Author.Tests.{le-leb, lt-leb, eq-eqb, ne_eqb}
-use Rattle.members.specs.Members.{is_threshold}
-use Rattle.shares.specs.Layout.{is_length, is_day, capacity}
+use Rattle.shares.specs.Layout.{capacity}
+use Rattle.shares.specs.Internal.FirstChecks.{Passed, Refused}
+use Rattle.shares.proofs.FirstChecks.{refused_first}
 use Rattle.shares.specs.declared.Shape.{Shape}
 use Rattle.text.specs.Lines.{parts, line_of}
 use Rattle.text.proofs.Parts.{parts_some}
@@ -24,39 +25,43 @@ pub refused_so : (k : Refusal) (ws : List ℕ) (len : ℕ) → length ws ≡ len
 unfolding answer_of cleared unread
 refused_so k ws len e = rw e
 
--- the numbers of a D line: t, d and the day are in range or not
+-- the numbers of a D line
 module _ (len : ℕ) (ns ws : List ℕ) (lines : List (List ℕ)) (e : length ws ≡ len) where
-  pub first_t : is_threshold (get_or ns 0 0) ≡ false → answer_of (Err BadFirstLine) (cleared (Err BadFirstLine) ws) ≡ read_numbers len (some ns) lines
+  abbrev t : ℕ
+  t = get_or ns 0 0
+
+  abbrev d : ℕ
+  d = get_or ns 1 0
+
+  abbrev day : ℕ
+  day = get_or ns 3 0
+
+  -- t, d or the day is out of range
+  pub first_refused : {k : ℕ} → Refused t d day k → answer_of (Err BadFirstLine) (cleared (Err BadFirstLine) ws) ≡ read_numbers len (some ns) lines
   unfolding read_numbers
-  first_t h = rw h (refused_so BadFirstLine ws len e)
+  first_refused r =
+      refused_so BadFirstLine ws len e
+      ∙ sym (refused_first (λ k. unread len 22) [] (read_from len t d (get_or ns 2 0) day (take_lines t d [] lines)) r)
 
-  module _ (p : is_threshold (get_or ns 0 0) ≡ true) where
-    pub first_d : is_length (get_or ns 1 0) ≡ false → answer_of (Err BadFirstLine) (cleared (Err BadFirstLine) ws) ≡ read_numbers len (some ns) lines
-    unfolding read_numbers
-    first_d h = rw (p, h) (refused_so BadFirstLine ws len e)
+  -- they are in range: what the lines come to is the answer
+  module _ (s : Shape) (passed : (s.t ≡ t) × (s.d ≡ d) × Passed t d day) where
+    p : Passed t d day
+    p = passed.2
 
-    module _ (q : is_length (get_or ns 1 0) ≡ true) where
-      pub first_day : is_day (get_or ns 3 0) ≡ false → answer_of (Err BadFirstLine) (cleared (Err BadFirstLine) ws) ≡ read_numbers len (some ns) lines
-      unfolding read_numbers
-      first_day h = rw (p, q, h) (refused_so BadFirstLine ws len e)
+    came : (r : Result ℕ Refusal) → Comes s.t s.d (take_lines s.t s.d [] lines) r ws → Comes t d (take_lines t d [] lines) r ws
+    came r h = rw (passed.0, passed.1) at h
 
-      -- what the lines come to is the answer
-      module _ (y : is_day (get_or ns 3 0) ≡ true) (s : Shape) (same : (s.t ≡ get_or ns 0 0) × (s.d ≡ get_or ns 1 0)) where
-        came : (r : Result ℕ Refusal) → Comes s.t s.d (take_lines s.t s.d [] lines) r ws
-            → Comes (get_or ns 0 0) (get_or ns 1 0) (take_lines (get_or ns 0 0) (get_or ns 1 0) [] lines) r ws
-        came r h = rw (same.0, same.1) at h
+    pub lines_refused : (k : Refusal) → Comes s.t s.d (take_lines s.t s.d [] lines) (Err k) ws → answer_of (Err k) (cleared (Err k) ws) ≡ read_numbers len (some ns) lines
+    unfolding read_numbers read_from Comes
+    lines_refused k h = rw (p.threshold, p.in_length, p.is_a_day, came (Err k) h) (refused_so k ws len e)
 
-        pub lines_refused : (k : Refusal) → Comes s.t s.d (take_lines s.t s.d [] lines) (Err k) ws → answer_of (Err k) (cleared (Err k) ws) ≡ read_numbers len (some ns) lines
-        unfolding read_numbers read_from Comes
-        lines_refused k h = rw (p, q, y, came (Err k) h) (refused_so k ws len e)
-
-        pub lines_taken : (present : ℕ) → Comes s.t s.d (take_lines s.t s.d [] lines) (Ok present) ws
-            → (r : given.HandIn) → r ≡ record { t = get_or ns 0 0; d = get_or ns 1 0; quorum = get_or ns 2 0; day = get_or ns 3 0; present = present }
-            → answer_of (Ok r) (cleared (Ok r) ws) ≡ read_numbers len (some ns) lines
-        unfolding read_numbers read_from Comes answer_of cleared
-        lines_taken present h r same_r =
-            let c : Comes (get_or ns 0 0) (get_or ns 1 0) (take_lines (get_or ns 0 0) (get_or ns 1 0) [] lines) (Ok present) ws = came (Ok present) h in
-            rw (same_r, p, q, y, c.1, ← c.2.members, ← c.2.stored)
+    pub lines_taken : (present : ℕ) → Comes s.t s.d (take_lines s.t s.d [] lines) (Ok present) ws
+        → (r : given.HandIn) → r ≡ record { t = t; d = d; quorum = get_or ns 2 0; day = day; present = present }
+        → answer_of (Ok r) (cleared (Ok r) ws) ≡ read_numbers len (some ns) lines
+    unfolding read_numbers read_from Comes answer_of cleared
+    lines_taken present h r same_r =
+        let c : Comes t d (take_lines t d [] lines) (Ok present) ws = came (Ok present) h in
+        rw (same_r, p.threshold, p.in_length, p.is_a_day, c.1, ← c.2.members, ← c.2.stored)
 
 -- the first line, and what follows it
 module _ (len : ℕ) (text : List ℕ) where
@@ -106,5 +111,5 @@ unfolding cleared
 cleared-ok (Ok g) ws a e h = h
 cleared-ok (Err k) ws a e h = absurd (true≢false e)
 
--- for the checks of the first line as the code makes them
-pub ruleset first_checks = (first_t, first_d, first_day)
+-- for the numbers of a D line as the code takes them
+pub ruleset by_numbers = (first_refused, lines_refused, lines_taken)

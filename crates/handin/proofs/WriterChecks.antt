@@ -1,7 +1,7 @@
 -- The writer's checks in their order, as the code makes them; and the text, where it fits.
 -- Assumes nothing.
-use mathlib.Core.Path.{◌≡◌, refl, ap, ap₂, ◌∙◌}
-use mathlib.Core.Bool.{true, false}
+use mathlib.Core.Path.{◌≡◌, sym, ap, ap₂, ◌∙◌}
+use mathlib.Core.Bool.{true}
 use mathlib.Core.List.{List, ◌++◌}
 use Prim.Native.Nat.{ℕ, ◌+◌, ◌*◌, ◌≤◌, ◌<◌}
 use native.Mathlib.Omega.{arith}
@@ -9,17 +9,20 @@ use borrow.Author.Tests.{le-leb, lt-leb}
 use lib.Dec.{eqb}
 use lib.ListN.{length, drop, length-append}
 use Rattle.std.specs.Prelude.{Ok, Err}
-use Rattle.members.specs.Members.{is_threshold, size, is_set, first_of}
-use Rattle.shares.specs.Layout.{is_length, is_day, width}
+use Rattle.members.specs.Members.{size, first_of}
+use Rattle.shares.specs.Layout.{width}
+use Rattle.shares.specs.Internal.FirstChecks.{Passed, Refused}
 use Rattle.shares.specs.declared.Shape.{Shape}
-use Rattle.shares.proofs.Shapes.{in_range}
+use Rattle.shares.proofs.FirstChecks.{refused_first}
 use Rattle.shares.proofs.Tests.{wrong_length, right_length, beyond_n, within_n}
 use Rattle.text.specs.Internal.Writing.{Written}
 use Rattle.text.proofs.Writing.{written_then, written_as, written_front, written_count}
-use Rattle.handin.specs.Writer.{HandInText, first_line, share_lines, text_of, unwritten, written, write}
+use Rattle.handin.specs.Writer.{HandInText, first_line, share_lines, text_of, unwritten, written, checks, write}
 use Rattle.handin.specs.Internal.Fitted.{fitted}
 use Rattle.handin.specs.Answer.{written_of}
-use Rattle.refusals.specs.declared.Refusal.TheVariants.{BadThreshold, BadSecretLength, BadDay, BadInputLength, MemberBeyondN, TextBufferTooShort}
+use Rattle.refusals.specs.Refusals.{number}
+use Rattle.refusals.specs.declared.Refusal.{Refusal}
+use Rattle.refusals.specs.declared.Refusal.TheVariants.{BadInputLength, MemberBeyondN, TextBufferTooShort}
 
 -- ---- the last check, and the text
 
@@ -67,39 +70,34 @@ module _ (s : Shape) (quorum day present : ℕ) (words : List ℕ) where
 -- ---- the checks before it
 
 module _ (t d quorum day present : ℕ) (words buffer : List ℕ) where
-  pub wrote_1 : is_threshold t ≡ false → written_of (Err BadThreshold) buffer ≡ write t d quorum day present words buffer
+  -- one of the first checks fails
+  pub wrote_first : (k : Refusal) → Refused t d day (number k) → written_of (Err k) buffer ≡ write t d quorum day present words buffer
   unfolding written_of write unwritten
-  wrote_1 h = rw h
+  wrote_first k r =
+      let text : List ℕ = text_of t d quorum day present words in
+      sym (refused_first (unwritten buffer) (drop 3 (checks t d day present words text buffer)) (written text buffer) r)
 
-  module _ (threshold : is_threshold t ≡ true) where
-    pub wrote_2 : is_length d ≡ false → written_of (Err BadSecretLength) buffer ≡ write t d quorum day present words buffer
+  -- they all pass
+  module _ (s : Shape) (passed : (s.t ≡ t) × (s.d ≡ d) × Passed t d day) where
+    p : Passed t d day
+    p = passed.2
+
+    pub wrote_11 : (length words ≡ s.n * s.width → ⊥) → written_of (Err BadInputLength) buffer ≡ write t d quorum day present words buffer
     unfolding written_of write unwritten
-    wrote_2 h = rw (threshold, h)
+    wrote_11 h = rw (p.threshold, p.in_length, p.is_a_day, wrong_length s passed words h)
 
-    module _ (in_length : is_length d ≡ true) where
-      pub wrote_32 : is_day day ≡ false → written_of (Err BadDay) buffer ≡ write t d quorum day present words buffer
+    module _ (long : length words ≡ s.n * s.width) where
+      right : eqb (length words) (size t * width t d) ≡ true
+      right = right_length s passed words long
+
+      pub wrote_12 : first_of s.n < present → written_of (Err MemberBeyondN) buffer ≡ write t d quorum day present words buffer
       unfolding written_of write unwritten
-      wrote_32 h = rw (threshold, in_length, h)
+      wrote_12 h = rw (p.threshold, p.in_length, p.is_a_day, right, beyond_n s passed present h)
 
-      module _ (is_a_day : is_day day ≡ true) (s : Shape) (es : (s.t ≡ t) × (s.d ≡ d)) where
-        pub wrote_11 : (length words ≡ s.n * s.width → ⊥) → written_of (Err BadInputLength) buffer ≡ write t d quorum day present words buffer
-        unfolding written_of write unwritten
-        wrote_11 h = rw (threshold, in_length, is_a_day, wrong_length t d s es words h)
-
-        module _ (long : length words ≡ s.n * s.width) where
-          right : eqb (length words) (size t * width t d) ≡ true
-          right = right_length t d s es words long
-
-          pub wrote_12 : first_of s.n < present → written_of (Err MemberBeyondN) buffer ≡ write t d quorum day present words buffer
-          unfolding written_of write unwritten
-          wrote_12 h = rw (threshold, in_length, is_a_day, right, beyond_n t d s es (in_range t d threshold in_length) present (first_of s.n) refl h)
-
-          pub goes_on : present ≤ first_of s.n → (answer : HandInText) → answer ≡ fitted (text_of s.t s.d quorum day present words) buffer
-              → answer ≡ write t d quorum day present words buffer
-          unfolding write fitted
-          goes_on h answer e =
-              let within : is_set (size t) present ≡ true = within_n t d s es (in_range t d threshold in_length) present (first_of s.n) refl h in
-              e ∙ rw (es.0, es.1, threshold, in_length, is_a_day, right, within)
+      pub goes_on : present ≤ first_of s.n → (answer : HandInText) → answer ≡ fitted (text_of s.t s.d quorum day present words) buffer
+          → answer ≡ write t d quorum day present words buffer
+      unfolding write fitted
+      goes_on h answer e = e ∙ rw (passed.0, passed.1, p.threshold, p.in_length, p.is_a_day, right, within_n s passed present h)
 
 -- for the checks as the code makes them
-pub ruleset by_check = (wrote_1, wrote_2, wrote_32, wrote_11, wrote_12, goes_on)
+pub ruleset by_check = (wrote_first, wrote_11, wrote_12, goes_on)

@@ -76,9 +76,8 @@ pub struct HandIn {
     pub present: u32,
 }
 
-// The numbers of a D line, and the P lines after it. The checks of t, d and the day stand here and in `write` again: so each call's own order and numbers are
-// in sight, as its definition lists them.
-#[tactic(auto, using(crate::proofs::Reading::first_checks))]
+// The numbers of a D line, and the P lines after it.
+#[tactic(auto, using(crate::proofs::Reading::by_numbers))]
 fn read_numbers(text: &[u8], first: &[u16; 4], words: &mut [u16; 4867]) -> Result<HandIn, Refusal>
     ensures { answer_of result (cleared result words.new) ≡ read_numbers (length words.old) (some first.now) (parts 10 text.now) }
 {
@@ -86,16 +85,10 @@ fn read_numbers(text: &[u8], first: &[u16; 4], words: &mut [u16; 4867]) -> Resul
     let d = first[1] as usize;
     let quorum = first[2];
     let day = first[3];
-    if !members::threshold(t) {
+    let Ok(shape) = Shape::check(t, d, day) else {
         return Err(Refusal::BadFirstLine);
-    }
-    if !lists::within(1, 64, d) {
-        return Err(Refusal::BadFirstLine);
-    }
-    if !shares::is_day(day) {
-        return Err(Refusal::BadFirstLine);
-    }
-    let present = take_lines(text, Shape::new(t, d), words)?;
+    };
+    let present = take_lines(text, shape, words)?;
     Ok(HandIn {
         t,
         d,
@@ -256,16 +249,7 @@ pub fn write(
 ) -> Result<usize, Refusal>
     ensures { written_of result text.new ≡ write t d quorum day present shares.now text.old }
 {
-    if !members::threshold(t) {
-        return Err(Refusal::BadThreshold);
-    }
-    if !lists::within(1, 64, d) {
-        return Err(Refusal::BadSecretLength);
-    }
-    if !shares::is_day(day) {
-        return Err(Refusal::BadDay);
-    }
-    let shape = Shape::new(t, d);
+    let shape = Shape::check(t, d, day)?;
     if shares.len() != shape.n * shape.width {
         return Err(Refusal::BadInputLength);
     }

@@ -333,16 +333,7 @@ fn check(
 ) -> Result<Shape, Refusal>
     ensures { MatchResult result (λ s. Accepted t d day present quorum shares.now s) (λ refusal. reconstruct_of t d day present quorum shares.now ≡ turned_away d (number refusal)) }
 {
-    if !members::threshold(t) {
-        return Err(Refusal::BadThreshold);
-    }
-    if !lists::within(1, 64, d) {
-        return Err(Refusal::BadSecretLength);
-    }
-    if !shares::is_day(day) {
-        return Err(Refusal::BadDay);
-    }
-    let shape = Shape::new(t, d);
+    let shape = Shape::check(t, d, day)?;
     if shares.len() != shape.n * shape.width {
         return Err(Refusal::BadInputLength);
     }

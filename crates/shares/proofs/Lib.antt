@@ -1,6 +1,7 @@
 -- What is proved of this crate.
 pub mod Assembled
 pub mod Examples
+pub mod FirstChecks
 pub mod Places
 pub mod Reading
 pub mod Same

@@ -12,16 +12,17 @@ use Rattle.lists.proofs.Checks.{within_high}
 use Rattle.members.specs.Members.{size, is_set, first_of}
 use Rattle.members.proofs.Words.{first_of-is_set, size_31}
 use Rattle.shares.specs.Layout.{is_day, width}
-use Rattle.shares.specs.Internal.Shape.{InRange}
+use Rattle.shares.specs.Internal.FirstChecks.{Passed}
 use Rattle.shares.specs.declared.Shape.{Shape}
 
 pub day_below : (day : ℕ) → is_day day ≡ true → day < 65521
 day_below day h = omega (arith, within_high 1 65520 day h)
 
-module _ (t d : ℕ) (s : Shape) (es : (s.t ≡ t) × (s.d ≡ d)) where
+-- the shape of a call whose first checks pass
+module _ {t d day : ℕ} (s : Shape) (passed : (s.t ≡ t) × (s.d ≡ d) × Passed t d day) where
   all_words : s.n * s.width ≡ size t * width t d
   all_words =
-      ap₂ ◌*◌ s.members s.share ∙ ap (λ (m : ℕ). size m * width m s.d) es.0 ∙ ap (λ (m : ℕ). size t * width t m) es.1
+      ap₂ ◌*◌ s.members s.share ∙ ap (λ (m : ℕ). size m * width m s.d) passed.0 ∙ ap (λ (m : ℕ). size t * width t m) passed.1
 
   module _ (words : List ℕ) where
     pub wrong_length : (length words ≡ s.n * s.width → ⊥) → eqb (length words) (size t * width t d) ≡ false
@@ -30,13 +31,14 @@ module _ (t d : ℕ) (s : Shape) (es : (s.t ≡ t) × (s.d ≡ d)) where
     pub right_length : length words ≡ s.n * s.width → eqb (length words) (size t * width t d) ≡ true
     right_length h = eq-eqb (length words) (size t * width t d) (h ∙ all_words)
 
-  module _ (range : InRange t d) (present f : ℕ) (ef : f ≡ first_of s.n) where
-    tested : leb present f ≡ is_set (size t) present
+  module _ (present : ℕ) where
+    tested : leb present (first_of s.n) ≡ is_set (size t) present
     tested =
-        ap (leb present) (ef ∙ ap first_of (s.members ∙ ap size es.0)) ∙ first_of-is_set (size t) present (omega (arith, size_31 t range.t_high))
+        ap (λ (n : ℕ). leb present (first_of n)) (s.members ∙ ap size passed.0)
+        ∙ first_of-is_set (size t) present (omega (arith, size_31 t (within_high 1 15 t passed.2.threshold)))
 
-    pub beyond_n : f < present → is_set (size t) present ≡ false
-    beyond_n h = sym tested ∙ lt-leb present f h
+    pub beyond_n : first_of s.n < present → is_set (size t) present ≡ false
+    beyond_n h = sym tested ∙ lt-leb present (first_of s.n) h
 
-    pub within_n : present ≤ f → is_set (size t) present ≡ true
-    within_n h = sym tested ∙ le-leb present f h
+    pub within_n : present ≤ first_of s.n → is_set (size t) present ≡ true
+    within_n h = sym tested ∙ le-leb present (first_of s.n) h

@@ -1,10 +1,14 @@
 // A station's shape, the words of its members' shares, and its days.
 #![tactic(auto)]
 
-ghost use Rattle.std.specs.Prelude.{◌≡◌, ℕ, ◌+◌, ◌*◌, ◌≤◌, ◌<◌, length, take, drop};
+ghost use Rattle.std.specs.Prelude.{◌≡◌, ℕ, ◌+◌, ◌*◌, ◌≤◌, ◌<◌, length, take, drop, MatchResult};
 ghost use Rattle.lists.specs.Tabulate.{tab};
+ghost use Rattle.refusals.specs.Refusals.{number};
 ghost use Rattle.members.specs.Members.{size};
 ghost use Rattle.shares.specs.Layout.{is_day, width as width_of};
+ghost use Rattle.shares.specs.Internal.FirstChecks.{Passed, Refused};
+
+use refusals::Refusal;
 
 // A day is 1 to 65520.
 pub fn is_day(day: u16) -> bool
@@ -46,6 +50,23 @@ impl Shape {
             n,
             width: d + 3 * n,
         }
+    }
+
+    // The shape for t and d, after the checks that every call with t, d and a day begins with, in their order: 1, 2 and 32.
+    #[tactic(auto, using(crate::proofs::FirstChecks::by_check))]
+    pub fn check(t: usize, d: usize, day: u16) -> Result<Self, Refusal>
+        ensures { MatchResult result (λ s. (s.t ≡ t) × (s.d ≡ d) × Passed t d day) (λ refusal. Refused t d day (number refusal)) }
+    {
+        if !members::threshold(t) {
+            return Err(Refusal::BadThreshold);
+        }
+        if !lists::within(1, 64, d) {
+            return Err(Refusal::BadSecretLength);
+        }
+        if !is_day(day) {
+            return Err(Refusal::BadDay);
+        }
+        Ok(Shape::new(t, d))
     }
 }
 
