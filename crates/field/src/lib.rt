@@ -63,14 +63,34 @@ pub fn add_products<const N: usize>(c: u16, a: &[u16; N], b: &[u16; N]) -> u16
     (total % 65521) as u16
 }
 
-// low + 2^16 · high modulo p, since 2^16 is 15 modulo p. Long sums of products are kept as sums of their low and of their high 16 bits: both fit 32 bits,
-// and so they are made for several places at once. Such sums stand in three places: `inner_product` has one in two variables, a lane of `lanes` one in a pair of
-// words, and `parity` 64 in two arrays. One type for all would need a length, indices that must be proved inside it, and a bound for each of the three.
+// low + 2^16 · high modulo p, since 2^16 is 15 modulo p.
 pub fn join_halves(low: u32, high: u32) -> u16
     requires { (low ≤ 268435455) × (high ≤ 268435455) }
     ensures { result ≡ (low + 65536 * high) % prime }
 {
     ((low + 15 * high) % 65521) as u16
+}
+
+// A long sum of products of two words: the low 16 bits of the products added up, and the high 16 bits. Both fit 32 bits, and so the compiler makes several such
+// sums at once. (`parity` has 64 of them in two arrays of its own, each in one piece.)
+#[derive(Clone, Copy)]
+pub struct Halves {
+    pub low: u32,
+    pub high: u32,
+}
+
+impl Halves {
+    // The sum and one product more.
+    pub fn with(self, a: u16, b: u16) -> Self
+        requires { (self.low ≤ 268369920) × (self.high ≤ 268369920) }
+        ensures { (result.low + 65536 * result.high ≡ self.low + 65536 * self.high + a * b) × (result.low ≤ self.low + 65535) × (result.high ≤ self.high + 65535) }
+    {
+        let product = a as u32 * b as u32;
+        Halves {
+            low: self.low + product % 65536,
+            high: self.high + product / 65536,
+        }
+    }
 }
 
 // The sum of the products of two lists, place by place, with one reduction. One index serves both: with `zip` the compiler uses no vectors.
@@ -79,14 +99,11 @@ pub fn inner_product(a: &[u16], b: &[u16]) -> u16
     requires { (length a.now ≡ length b.now) × (length a.now ≤ 64) }
     ensures { result ≡ dot a.now b.now % prime }
 {
-    let mut low: u32 = 0;
-    let mut high: u32 = 0;
+    let mut sum = Halves { low: 0, high: 0 };
     for (i, x) in a.iter().enumerate() {
-        let product = *x as u32 * b[i] as u32;
-        low += product % 65536;
-        high += product / 65536;
+        sum = sum.with(*x, b[i]);
     }
-    join_halves(low, high)
+    join_halves(sum.low, sum.high)
 }
 
 // a to the power of the lowest binary digit of k

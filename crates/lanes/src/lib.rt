@@ -7,24 +7,7 @@ ghost use Rattle.field.specs.Field.{sum, product};
 ghost use Rattle.polynomial.specs.Polynomial.{value};
 ghost use Rattle.lanes.specs.Internal.Lanes.{nth_power, eight_before};
 
-// A sum of products of two words: the low halves of the products added up, and the high halves.
-#[derive(Clone, Copy)]
-pub struct Halves {
-    pub low: u32,
-    pub high: u32,
-}
-
-// The sum and one product more.
-fn accumulate(sum: Halves, a: u16, b: u16) -> Halves
-    requires { (sum.low ≤ 524280) × (sum.high ≤ 524280) }
-    ensures { (result.low + 65536 * result.high ≡ sum.low + 65536 * sum.high + a * b) × (result.low ≤ sum.low + 65535) × (result.high ≤ sum.high + 65535) }
-{
-    let product = a as u32 * b as u32;
-    Halves {
-        low: sum.low + product % 65536,
-        high: sum.high + product / 65536,
-    }
-}
+use field::Halves;
 
 // One lane: the value of eight words and those after them, from that of those after them. The rows have the lane's point, its square, and so on.
 fn lane(eight: &[u16; 8], rows: &[[u16; 32]; 8], j: usize, after: u16) -> u16
@@ -36,9 +19,9 @@ fn lane(eight: &[u16; 8], rows: &[[u16; 32]; 8], j: usize, after: u16) -> u16
         high: 0,
     };
     for m in 0..7 {
-        sum = accumulate(sum, rows[m][j], eight[m + 1]);
+        sum = sum.with(rows[m][j], eight[m + 1]);
     }
-    let all = accumulate(sum, rows[7][j], after);
+    let all = sum.with(rows[7][j], after);
     field::join_halves(all.low, all.high)
 }
 

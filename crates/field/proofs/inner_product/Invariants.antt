@@ -7,7 +7,7 @@ use Rattle.field.proofs.inner_product.Given as goal
 abbrev pub invariant-loop-i : goal.invariant-loop-i
 invariant-loop-i l =
     record {
-      so_far : l.low + 65536 * l.high ≡ dot (take (l.i) l.a) (take (l.i) l.b);
-      low_fits : l.low ≤ 65535 * l.i;
-      high_fits : l.high ≤ 65535 * l.i;
+      so_far : l.sum.low + 65536 * l.sum.high ≡ dot (take (l.i) l.a) (take (l.i) l.b);
+      low_fits : l.sum.low ≤ 65535 * l.i;
+      high_fits : l.sum.high ≤ 65535 * l.i;
     }
