@@ -60,6 +60,9 @@ pub numeral_bad : (f : List ℕ) (i : ℕ) → i < length f → is_digit (get_or
 unfolding numeral_of is_numeral
 numeral_bad f i h d = rw (not_each f i h d, and-false)
 
+-- for the checks as the code makes them
+pub ruleset refused_fields = (numeral_short, numeral_long, numeral_zero)
+
 -- ---- a field of digits
 
 no_zero : (f : List ℕ) → (1 < length f → get_or f 0 0 ≡ 48 → ⊥) → leads_with_zero f ≡ false

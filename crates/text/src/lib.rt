@@ -1,7 +1,7 @@
 // Bytes of text both ways: numerals, fields and lines, read and printed.
 #![tactic(auto)]
 
-ghost use Rattle.std.specs.Prelude.{◌≡◌, ◌≢◌, ℕ, cond, [], ◌∷◌, ◌++◌, map, ◌+◌, ◌*◌, ◌<◌, ◌≤◌, eqb, leb, Some, None, length, slice_index, EachIndex, MatchOption, IfSome};
+ghost use Rattle.std.specs.Prelude.{◌≡◌, ◌≢◌, ℕ, cond, [], ◌∷◌, ◌++◌, map, ◌+◌, ◌*◌, ◌<◌, ◌≤◌, eqb, leb, Some, None, length, get_or, slice_index, EachIndex, MatchOption, IfSome};
 ghost use Rattle.std.specs.Option.{option_copied};
 ghost use Rattle.std.proofs.Math.Option.{some, none};
 ghost use Rattle.lists.specs.Tabulate.{concat};
@@ -98,7 +98,25 @@ fn short(value: u32) -> Option<u16>
     u16::try_from(value).ok()
 }
 
-// What a field stands for: the number of 1 to 5 digits with no leading zero, at most 65535. Not by `parse`, which takes a sign and leading zeros.
+// What 1 to 5 bytes stand for, of which the first of several is no zero: their number, if they are digits and it is at most 65535.
+fn digits_value(field: &[u8]) -> Option<u16>
+    requires few { (1 ≤ length field.now) × (length field.now ≤ 5) }
+    requires front { 1 < length field.now → get_or field.now 0 0 ≢ 48 }
+    ensures { result ≡ numeral_of field.now }
+{
+    let mut value: u32 = 0;
+    for b in field {
+        if !is_digit(*b) {
+            return None;
+        }
+        value = 10 * value + (*b - b'0') as u32;
+    }
+    short(value)
+}
+
+// What a field stands for: the number of 1 to 5 digits with no leading zero, at most 65535. Not by `parse`, which takes a sign and leading zeros. A single byte goes its
+// own way: it may be 0, and so the compiler unrolls the loop for several.
+#[tactic(auto, using(crate::proofs::Numerals::refused_fields))]
 fn numeral(field: &[u8]) -> Option<u16>
     ensures { result ≡ numeral_of field.now }
 {
@@ -108,17 +126,13 @@ fn numeral(field: &[u8]) -> Option<u16>
     if 5 < field.len() {
         return None;
     }
-    if 1 < field.len() && field[0] == b'0' {
+    if field.len() == 1 {
+        return digits_value(field);
+    }
+    if field[0] == b'0' {
         return None;
     }
-    let mut value: u32 = 0;
-    for b in field {
-        if !is_digit(*b) {
-            return None;
-        }
-        value = 10 * value + (*b - b'0') as u32;
-    }
-    short(value)
+    digits_value(field)
 }
 
 // The numbers of a line that is a letter and then exactly as many numerals as `out` has words. For any other line `out` is left with words of no meaning.
