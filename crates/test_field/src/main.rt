@@ -31,8 +31,8 @@ fn far_pairs(rt: &impl Print) -> io::Result<()> {
 
 // Pairs of words at most 31 apart, either way.
 fn near_pairs(rt: &impl Print) -> io::Result<()> {
-    for left in (0..63u16).rev() {
-        pair(rt, 1000, 969 + left)?;
+    for near in (969..=1031u16).rev() {
+        pair(rt, 1000, near)?;
     }
     Ok(())
 }
