@@ -236,7 +236,7 @@ impl Source<'_> {
 }
 
 // Writes hand-in text at the front of a buffer: the D line, then a P line for each present member. The bytes past the text stay. Its first five parameters are
-// HandIn's fields: the C interface lends them one by one.
+// HandIn's fields: the call for C has them one by one, and would make a HandIn for this one call.
 #[tactic(auto, using(crate::proofs::WriterChecks::by_check))]
 pub fn write(
     t: usize,
