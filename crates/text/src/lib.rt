@@ -21,7 +21,7 @@ enum Kind {
 }
 
 // By a range for the digits and single values for the rest. These have a match of their own: in one match the compiler tests the single values first, and
-// reading took 1.4 times as long.
+// reading took 1.05 times as long.
 #[tactic(auto, using(crate::proofs::Bytes::kinds))]
 fn sort(b: u8) -> Kind
     ensures { result ≡ kind_of b }
@@ -253,10 +253,11 @@ impl<'a> Output<'a> {
         let end = at + count_digits(n);
         let bytes = &mut *self.bytes;
         let mut rest = n;
-        for i in (at..end).rev() {
+        for i in (at + 1..end).rev() {
             bytes[i] = 48 + (rest % 10) as u8;
             rest /= 10;
         }
+        bytes[at] = 48 + rest as u8;
         self.end = end;
     }
 
