@@ -96,29 +96,13 @@ pub record Left (n at : ℕ) (before output : List ℕ) (i rest : ℕ) : Type 0 
   pub long : length output ≡ length before
   pub stores : sets output at (digits 10 rest) ≡ sets before at (digits 10 n)
 
-pub left_first : (n at : ℕ) (before : List ℕ) (i : ℕ) → n < 4294967296 → i ≡ at + length (digits 10 n) → i ≤ length before → Left n at before before i n
-left_first n at before i f p h = record { fits = f; place = p; inside = h; long = refl; stores = refl }
-
 module _ {n at : ℕ} {before output : List ℕ} {i rest : ℕ} (l : Left n at before output i rest) where
-  several_left : at + 1 < i → 9 < rest
-  several_left more = elim (test (ltb rest 10)) [
-    | inl e ↦ absurd (omega (arith, more, l.place, ap length (digits-one rest (ltb-true rest 10 e))))
-    | inr e ↦ ltb-false rest 10 e
-  ]
+  -- a digit is left
+  pub left-place : at < i
+  left-place = omega (arith, l.place, has_digit rest l.fits)
 
-  -- one digit is left, and it has its place
-  pub one_left : i ≤ at + 1 → rest < 10
-  one_left none = elim (test (ltb rest 10)) [
-    | inl e ↦ ltb-true rest 10 e
-    | inr e ↦ absurd (omega (arith, none, l.place, one_more rest (ltb-false rest 10 e) l.fits, has_digit (rest / 10) (omega (arith, l.fits))))
-  ]
-
-  pub left_inside : at < length output
-  left_inside = omega (arith, l.place, l.inside, l.long, has_digit rest l.fits)
-
-  pub left_next : at + 1 < i → Left n at before (set output (i - 1) (48 + rest % 10)) (i - 1) (rest / 10)
-  left_next more =
-      let h : 9 < rest = several_left more in
+  pub left_next : 9 < rest → Left n at before (set output (i - 1) (48 + rest % 10)) (i - 1) (rest / 10)
+  left_next h =
       let p : i - 1 ≡ at + length (digits 10 (rest / 10)) = omega (arith, l.place, one_more rest h l.fits) in
       record {
         fits = omega (arith, l.fits);
@@ -133,5 +117,35 @@ module _ {n at : ℕ} {before output : List ℕ} {i rest : ℕ} (l : Left n at b
       }
 
   -- the first digit, which is the last one to store
-  pub left_last : i ≤ at + 1 → set output at (48 + rest) ≡ sets before at (digits 10 n)
-  left_last none = ap (sets output at) (sym (digits-one rest (one_left none))) ∙ l.stores
+  module _ (h : rest < 10) where
+    pub left_one : i - 1 ≡ at
+    left_one =
+        let one : length (digits 10 rest) ≡ 1 = ap length (digits-one rest h) in
+        omega (arith, l.place, one)
+
+    pub left_last : set output (i - 1) (48 + rest % 10) ≡ sets before at (digits 10 n)
+    left_last =
+        let d : rest % 10 ≡ rest = omega arith in
+        rw (left_one, d) (ap (sets output at) (sym (digits-one rest h)) ∙ l.stores)
+
+-- digits are left to store, or all are stored
+pub data Storing (n at : ℕ) (before output : List ℕ) (i rest : ℕ) : Type 0 where
+  left : Left n at before output i rest → Storing n at before output i rest
+  done : i ≡ at → length output ≡ length before → output ≡ sets before at (digits 10 n) → Storing n at before output i rest
+
+pub storing_first : (n at : ℕ) (before : List ℕ) (i : ℕ) → n < 4294967296 → i ≡ at + length (digits 10 n) → i ≤ length before → Storing n at before before i n
+storing_first n at before i f p h = left (record { fits = f; place = p; inside = h; long = refl; stores = refl })
+
+module _ {n at : ℕ} {before output : List ℕ} {i rest : ℕ} where
+  pub storing_next : Storing n at before output i rest → at < i → Storing n at before (set output (i - 1) (48 + rest % 10)) (i - 1) (rest / 10)
+  storing_next (done e h s) more = absurd (omega (arith, more, e))
+  storing_next (left l) more = elim (test (ltb rest 10)) [
+    | inl e ↦
+        let h : rest < 10 = ltb-true rest 10 e in
+        done (left_one l h) (length-set output (i - 1) (48 + rest % 10) ∙ l.long) (left_last l h)
+    | inr e ↦ left (left_next l (ltb-false rest 10 e))
+  ]
+
+  pub storing_last : Storing n at before output i rest → i ≤ at → output ≡ sets before at (digits 10 n)
+  storing_last (done e h s) none = s
+  storing_last (left l) none = absurd (omega (arith, left-place l, none))

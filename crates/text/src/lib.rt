@@ -253,11 +253,10 @@ impl<'a> Output<'a> {
         let end = at + count_digits(n);
         let bytes = &mut *self.bytes;
         let mut rest = n;
-        for i in (at + 1..end).rev() {
+        for i in (at..end).rev() {
             bytes[i] = 48 + (rest % 10) as u8;
             rest /= 10;
         }
-        bytes[at] = 48 + rest as u8;
         self.end = end;
     }
 
