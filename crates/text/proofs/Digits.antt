@@ -6,13 +6,16 @@ use mathlib.Core.Bool.{Bool, true, false}
 use mathlib.Core.List.{List, [], ◌∷◌, ◌++◌}
 use Prim.Native.Nat.{ℕ, zero, suc, ◌+◌, ◌*◌, ◌/◌, ◌%◌, ◌-◌, ◌^◌, ◌≤◌, ◌<◌, zero-le, suc-le-suc}
 use native.Mathlib.Nat.{pow-suc, one-le-pow, not-suc-le-zero, le_of_suc-le-suc, div-lt_iff_lt-mul, le-div_iff_mul-le}
+use native.Mathlib.Numerals.{add-one}
 use native.Mathlib.Omega.{arith}
 use borrow.Author.Tests.{ltb-true, ltb-false, lt-ltb, le-ltb}
 use lib.Dec.{ltb}
-use lib.ListN.{length, set, length-append, length-set}
+use lib.ListN.{length, get_or, set, length-append, length-set}
 use lib.Seq.{sets}
+use Rattle.lists.specs.Tabulate.{tab}
 use Rattle.lists.proofs.Bools.{test}
 use Rattle.lists.proofs.Stores.{sets_last}
+use Rattle.lists.proofs.Tabulate.{get_or-tab}
 use Rattle.text.specs.Lines.{digits}
 
 -- the last digit, and those before it if there are any
@@ -80,13 +83,52 @@ digits_exact (suc k) (suc f) n less low high =
     ∙ length-append (digits f (n / 10)) ((48 + n % 10) ∷ [])
     ∙ omega (arith, digits_exact k f (n / 10) (le_of_suc-le-suc less) tenth_low (tenth (suc k) n high))
 
--- how many digits a number has, by its whole logarithm
-pub digits_by_power : (k n : ℕ) → k < 10 → 10 ^ k ≤ n → n < 10 * 10 ^ k → length (digits 10 n) ≡ k + 1
-digits_by_power k n less low high =
-    let most : n < 10 ^ suc k = rw pow-suc (omega arith) in
-    omega (arith, digits_exact k 10 n less low most)
+-- the powers of ten, from 10 on
+abbrev pub tens : List ℕ
+tens = 10 ∷ 100 ∷ 1000 ∷ 10000 ∷ 100000 ∷ 1000000 ∷ 10000000 ∷ 100000000 ∷ 1000000000 ∷ []
 
-pub ruleset counting = (digits-one, digits_by_power, at_most_ten)
+power_at : (k : ℕ) → k < 9 → get_or tens k 0 ≡ 10 ^ suc k
+unfolding tab
+power_at k h = get_or-tab 9 (λ i. 10 ^ suc i) k 0 h
+
+-- one digit, and one more for each of the first k powers of ten that the number reaches
+pub record Counted (n k count : ℕ) : Type 0 where
+  pub reached : 10 ^ k ≤ n → count ≡ suc k
+  pub beyond : n < 10 ^ k → count ≡ length (digits 10 n)
+  pub few : count ≤ suc k
+
+pub counted_none : (n : ℕ) → Counted n 0 1
+counted_none n = record { reached = λ _. refl; beyond = λ h. sym (ap length (digits-one n (omega (arith, h)))); few = omega arith }
+
+module _ {n k count : ℕ} (c : Counted n k count) (less : k < 9) where
+  pub counted_more : get_or tens k 0 ≤ n → Counted n (k + 1) (count + 1)
+  counted_more h =
+      let now : 10 ^ suc k ≤ n = rw (power_at k less) at h in
+      rw add-one (record {
+        reached = λ _. omega (arith, c.reached (omega (arith, now, pow-suc 10 k)));
+        beyond = λ low. absurd (omega (arith, now, low));
+        few = omega (arith, c.few);
+      })
+
+  pub counted_same : n < get_or tens k 0 → Counted n (k + 1) count
+  counted_same h =
+      let now : n < 10 ^ suc k = rw (power_at k less) at h in
+      rw add-one (record {
+        reached = λ high. absurd (omega (arith, now, high));
+        beyond = λ _. elim (test (ltb n (10 ^ k))) [
+          | inl e ↦ c.beyond (ltb-true n (10 ^ k) e)
+          | inr e ↦ let high : 10 ^ k ≤ n = ltb-false n (10 ^ k) e in c.reached high ∙ sym (digits_exact k 10 n (omega (arith, less)) high now)
+        ];
+        few = omega (arith, c.few);
+      })
+
+pub counted_all : {n k count : ℕ} → Counted n k count → k ≡ 9 → n < 4294967296 → count ≡ length (digits 10 n)
+counted_all {n} {k} {count} c e fits = elim (test (ltb n (10 ^ k))) [
+  | inl f ↦ c.beyond (ltb-true n (10 ^ k) f)
+  | inr f ↦
+      let high : 10 ^ k ≤ n = ltb-false n (10 ^ k) f in
+      c.reached high ∙ sym (digits_exact k 10 n (omega (arith, e)) high (rw e (omega (arith, fits))))
+]
 
 -- digits stored from the last down: those of the rest are left to store, before place i
 pub record Left (n at : ℕ) (before output : List ℕ) (i rest : ℕ) : Type 0 where
