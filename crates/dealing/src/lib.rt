@@ -12,8 +12,8 @@ ghost use Rattle.dealing.specs.Answer.{answer_of};
 use refusals::Refusal;
 use shares::{Key, Shape};
 
-// What the shares are made of: the secret for a day, and the random words. Its functions fill slices of n, 2n, d or a share's words, and member i's words and tags
-// are parts of the share that it fills: t and d are known at run time only, and there is no type of an array of such a length.
+// What the shares are made of: the secret for a day, and the random words. Its functions fill slices of n, 2n, d or a share's words, parts of the
+// share that is lent: t and d are known at run time only, and a struct round a lent buffer would have to say in each contract whose words it writes.
 #[derive(Clone, Copy)]
 struct Supply<'a> {
     shape: Shape,

@@ -16,7 +16,7 @@ ghost use Rattle.decoding.specs.Decoding.{need, find, decoded_from, decode};
 use refusals::Refusal;
 
 // One word: member i has the point and the value at place i, and the members of the set are to be decoded. Its functions are lent t + 1 words for coefficients:
-// t is known at run time only, and there is no type of an array of such a length.
+// t is known at run time only, and a struct round a lent buffer would have to say in each contract whose words it writes.
 #[derive(Clone, Copy)]
 struct Word<'a> {
     t: usize,
@@ -166,7 +166,7 @@ fn check(t: usize, values: &[u16], set: u32, room: usize) -> Result<(), Refusal>
     Ok(())
 }
 
-// Decoding, but that a refusal does not fill the buffer.
+// Decoding, but that a refusal does not fill the buffer. t, values and set are the caller's own until the checks have passed: then a `Word` has them.
 fn work_out(t: usize, values: &[u16], set: u32, coefficients: &mut [u16]) -> Result<(), Refusal>
     ensures { outcome result coefficients.new ≡ decode t values.now set (length coefficients.old) }
 {

@@ -1,7 +1,7 @@
 // Arithmetic modulo the prime 65521, for any words: a word above 65520 is taken modulo the prime.
 #![tactic(auto)]
 
-ghost use Rattle.std.specs.Prelude.{◌≡◌, ◌+◌, ◌*◌, ◌^◌, ◌%◌, ◌≤◌, ◌<◌, length};
+ghost use Rattle.std.specs.Prelude.{◌≡◌, ◌+◌, ◌*◌, ◌^◌, ◌/◌, ◌%◌, ◌≤◌, ◌<◌, length};
 ghost use Rattle.lists.specs.Tabulate.{each};
 ghost use Rattle.field.specs.Field.{prime, is_field_word, sum, difference, product, inverse as inverse_of};
 ghost use Rattle.field.specs.Internal.Dot.{dot};
@@ -49,8 +49,8 @@ pub fn add_product(c: u16, a: u16, b: u16) -> u16
     ((c as u32 + a as u32 * b as u32) % 65521) as u16
 }
 
-// c plus the products of two lists, place by place, with one reduction. Whole products of so few words add up in 64 bits; `inner_product` is for long lists,
-// where 32-bit halves let the compiler use vectors.
+// c plus the products of two lists, place by place, by one index as below, with one reduction. Whole products of so few words add up in 64 bits;
+// `inner_product` is for long lists, where 32-bit halves let the compiler use vectors.
 #[tactic(auto, using(crate::proofs::Dot::adding))]
 pub fn add_products<const N: usize>(c: u16, a: &[u16; N], b: &[u16; N]) -> u16
     requires { N ≤ 64 }
@@ -58,12 +58,12 @@ pub fn add_products<const N: usize>(c: u16, a: &[u16; N], b: &[u16; N]) -> u16
 {
     let mut total = c as u64;
     for i in 0..N {
-        total += a[i] as u64 * b[i] as u64;
+        total += whole_product(a[i], b[i]);
     }
     (total % 65521) as u16
 }
 
-// low + 2^16 · high modulo p, since 2^16 is 15 modulo p.
+// low + 2^16 · high modulo p, since 2^16 is 15 modulo p. Two numbers, since `parity` has them in two arrays.
 pub fn join_halves(low: u32, high: u32) -> u16
     requires { (low ≤ 268435455) × (high ≤ 268435455) }
     ensures { result ≡ (low + 65536 * high) % prime }
@@ -83,7 +83,7 @@ impl Halves {
     // The sum and one product more.
     pub fn with(self, a: u16, b: u16) -> Self
         requires { (self.low ≤ 268369920) × (self.high ≤ 268369920) }
-        ensures { (result.low + 65536 * result.high ≡ self.low + 65536 * self.high + a * b) × (result.low ≤ self.low + 65535) × (result.high ≤ self.high + 65535) }
+        ensures { (result.low ≡ self.low + a * b % 65536) × (result.high ≡ self.high + a * b / 65536) × (result.high ≤ self.high + 65535) }
     {
         let product = a as u32 * b as u32;
         Halves {

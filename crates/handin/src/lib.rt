@@ -17,7 +17,8 @@ use refusals::Refusal;
 use shares::{Shape, Shares};
 use text::Output;
 
-// A line of the right shape: the member is judged, and only then is its share's place worked out.
+// A line of the right shape: the member is judged, and only then is its share's place worked out. The words are lent through all of the reader, beside what is
+// read: a struct round a lent buffer would have to say in each contract whose words it writes.
 #[tactic(auto, using(crate::proofs::Taking::share_room))]
 fn take_share(
     s: Shape,
@@ -51,7 +52,7 @@ fn take_line(line: &[u8], s: Shape, present: u32, words: &mut [u16; 4867]) -> Re
     take_share(s, present, numbers, words)
 }
 
-// The P lines one after the other, into a buffer that is all zeros at first: the present mask. On a refusal the caller clears the buffer.
+// The P lines one after the other, into a buffer that is cleared first: the present mask. On a refusal the caller clears the buffer.
 fn take_lines(text: &[u8], s: Shape, words: &mut [u16; 4867]) -> Result<u32, Refusal>
     ensures { Comes s.t s.d (take_lines s.t s.d [] (parts 10 text.now)) result words.new }
 {
@@ -220,8 +221,8 @@ impl Source<'_> {
         self.first_length() + self.shares_length()
     }
 
-    // The text, where it fits. Its lines are walked twice, to count and to write: refusal 31 leaves the buffer as it was, so the length must be known before the
-    // first byte is written.
+    // The text, where it fits. Its lines are walked twice, to count and to write: refusal 31 leaves the buffer as it was, so the length must be known before
+    // the first byte is written. A writer that counts or stores, as it is told, would carry that through each contract.
     fn put(&self, text: &mut [u8]) -> Result<usize, Refusal>
         ensures { written_of result text.new ≡ fitted (text_of self.now.shares.shape.t self.now.shares.shape.d self.now.quorum self.now.day self.now.present self.now.shares.words.now) text.old }
     {

@@ -10,7 +10,8 @@ ghost use Rattle.lagrange.specs.Internal.Lagrange.{over, Apart, inverted, weight
 ghost use Rattle.lagrange.specs.Internal.Matrix.{Chosen, Rows, products};
 
 // The points of some of n members, and the rows that read off the polynomial through any values at them: the row for x its value at x, which is 0 or any
-// member's point. Both are lent: there are t + 1 points, which is known at run time only, and rows that are owned would be 1 KB to move at each renewal.
+// member's point. Both are lent: there are t + 1 points, which is known at run time only, and `prepare` would have to move 1 KB of rows of its own to its
+// caller.
 #[derive(Drop)]
 pub struct Matrix<'a> {
     pub n: usize,
@@ -22,7 +23,7 @@ pub struct Matrix<'a> {
     pub ghost readable: { Rows n points.now rows.now },
 }
 
-// Points, and Lagrange's weights of them.
+// Points, and Lagrange's weights of them: as many, which is known at run time only.
 #[derive(Clone, Copy)]
 struct Nodes<'a> {
     points: &'a [u16],
@@ -94,7 +95,8 @@ fn entry(all: u16, weight: u16, x: u16, point: u16) -> u16
 }
 
 // The points of the first members of a set, as many as there is room for. That the set is of n members and has so many is about one argument beside another,
-// and is only handed on to here: a type of sets with so many members would be made for these calls alone.
+// and is only handed on to here: a type of sets with so many members would be made for these calls alone. A mask is no slice
+// to iterate: its lowest member is taken, and left out.
 fn choose(n: usize, set: u32, points: &mut [u16])
     requires { (n ≤ 31) × (set < 2 ^ n) × (length points.old ≤ card n set) }
     ensures { Chosen n points.new }
@@ -151,7 +153,7 @@ pub fn prepare<'a>(
     Matrix { n, points, rows }
 }
 
-// The inner products of the words with each row.
+// The inner products of the words with each row. It stands beside the method of a `Matrix`, which goes through it, since it answers for any rows.
 #[tactic(auto, using(lists::proofs::Loops::writes), unfolding(crate::specs::Internal::Matrix::products))]
 pub fn expect(rows: &[[u16; 16]; 32], words: &[u16], expected: &mut [u16])
     requires { (length words.now ≤ 16) × (length expected.old ≤ 32) }

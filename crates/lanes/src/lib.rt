@@ -67,8 +67,8 @@ fn powers(points: &[u16; 32], rows: &mut [[u16; 32]; 8])
     }
 }
 
-// The value at each of 32 points of the polynomial with these coefficients. The lanes are an array of their own: written straight into `values`, they made dealing
-// take 1.4 times as long, since the compiler used no vectors.
+// The value at each of 32 points of the polynomial with these coefficients. The lanes are an array of their own: written straight into `values`, they made
+// dealing take 1.4 times as long, since the compiler used no vectors.
 pub fn evaluate_at(words: &[u16], points: &[u16; 32], values: &mut [u16; 32])
     ensures { values.new ≡ tab 32 (λ j. value words.now (get_or points.now j 0)) }
 {

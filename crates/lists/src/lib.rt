@@ -11,8 +11,9 @@ pub fn within(low: usize, high: usize, x: usize) -> bool
     low <= x && x <= high
 }
 
-// The word at every place of the buffer: a public function, with two must-fail edits. The slice's own `fill` says the same under a premise about clones. (No `fill_by`
-// stands beside it for the loops that fill a buffer by place: a `for` over `iter_mut().enumerate()` says in two lines what a closure and its contract would.)
+// The word at every place of the buffer: a public function, with two must-fail edits. The slice's own `fill` says the same under a premise about clones. (No
+// `fill_by` stands beside it for the loops that fill a buffer by place: a `for` over `iter_mut().enumerate()` says in two lines what a closure and its contract
+// would.)
 pub fn fill(buffer: &mut [u16], word: u16)
     ensures { buffer.new ≡ replicate (length buffer.old) word }
 {

@@ -84,7 +84,7 @@ impl Pairs {
         d0 != 0 && (d1 == 0 || self.first.degree <= self.second.degree + self.t)
     }
 
-    // The step at (x, y).
+    // The step at (x, y). The degrees' sum grows by one at most with each step, so its bound is no part of the type.
     #[tactic(auto, using(std::proofs::lemmas::Bool::Decides::nat_tests), unfolding(crate::specs::Internal::Pairs::stepped, crate::specs::Internal::Pairs::step_by, crate::specs::Internal::Pairs::first_up, crate::specs::Internal::Pairs::second_up))]
     fn step(&mut self, x: u16, y: u16)
         requires { self.old.first.degree + self.old.second.degree ≤ 31 }

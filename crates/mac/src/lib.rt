@@ -1,5 +1,5 @@
 // The tag of a list of words under a key, whole or as its first word and the rest; and the latter under 32 keys at once. A key is two words here, α and β, as
-// the rules name them, and the call for C takes them so; `Key` is of `shares`, where keys are read.
+// the rules name them: `Key` is of `shares`, where keys are read, and this crate needs nothing else of that one.
 #![tactic(auto)]
 
 ghost use Rattle.std.specs.Prelude.{◌≡◌, ◌∷◌, get_or};
@@ -25,7 +25,7 @@ pub fn tag_with_first(alpha: u16, beta: u16, first: u16, rest: &[u16]) -> u16
 }
 
 // Under 32 keys at once, the tags of a first word and the rest, which need not stand together: the first has power 1, and the rest begin at power 2. The keys
-// are two arrays, α and β apart, since lanes need each in one piece.
+// are two arrays, α and β apart: lanes need the α in one piece.
 #[tactic(auto, using(crate::proofs::Tags::under_all_keys))]
 pub fn tags_with_first(
     alphas: &[u16; 32],

@@ -22,7 +22,7 @@ pub fn size(t: usize) -> usize
     2 * t + 1
 }
 
-// The members' own points: 1 to n, for n members.
+// The members' own points: 1 to n, for n members, in the caller's array: n is known at run time only.
 #[tactic(auto, using(lists::proofs::Loops::writes))]
 pub fn own_points(points: &mut [u16])
     requires { length points.old ≤ 31 }

@@ -50,6 +50,7 @@ enum Failure {
     Writing(io::Error),
 }
 
+// By hand: the derive that would write it is of another package, which nothing else here needs.
 impl fmt::Display for Failure {
     fn fmt<W: fmt::Write>(&self, f: &mut fmt::Formatter<W>) -> fmt::Result {
         match self {

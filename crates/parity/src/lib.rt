@@ -65,7 +65,8 @@ fn raise(row: &mut [u16])
     }
 }
 
-// A sum of products for each of 64 places. The products' low and high halves are summed apart, in two arrays, so that the compiler works on several places at once.
+// A sum of products for each of 64 places. The products' low and high halves are summed apart, as in field's `Halves`, but in two arrays, so that the compiler
+// works on several places at once.
 #[derive(Drop)]
 struct Halves {
     low: [u32; 64],
@@ -194,7 +195,8 @@ fn fill_zero_weights(shape: Shape, row: &mut [u16])
     }
 }
 
-// The look, with room for a row and for the sums, both lent: a value that holds the shares and these two would be made for this one call.
+// The look, with room for a row and for the sums, both lent. Here and above the row is a slice of n words, known at run time only, beside the sums: each is
+// changed by the other in turn, and a struct of the two would be taken apart at each turn.
 fn look_by_rows(shares: &Shares, row: &mut [u16], sums: &mut Halves, secret: &mut [u16]) -> usize
     requires { (length row.old ≡ shares.now.shape.n) × (length secret.old ≡ shares.now.shape.d) }
     ensures value { result ≡ looked shares.now.shape.t shares.now.shape.d (words shares.now) }

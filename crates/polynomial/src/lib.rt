@@ -32,7 +32,7 @@ fn by_four(coefficients: &[u16], x: u16) -> u16
     })
 }
 
-// 1, x, x², .. modulo p, as many as there is room for.
+// 1, x itself, and the further powers of x modulo p, as many as there is room for.
 #[tactic(auto, using(crate::proofs::Powers::powers_made))]
 pub fn fill_powers(x: u16, powers: &mut [u16])
     requires { 2 ≤ length powers.old }
@@ -115,8 +115,8 @@ pub fn evaluate_by_powers(constant: u16, others: &[u16], powers: &[u16]) -> u16
     field::add(constant, field::inner_product(others, &powers[1..]))
 }
 
-// The slopes from point i to the points after it, in place of their values. Points and values are two slices here and below: a struct of them would have to say in
-// each contract that its values are the ones that were lent.
+// The slopes from point i to the points after it, in place of their values. Points and values are two slices here and below: a struct of them would have to say
+// in each contract that its values are the ones that were lent.
 #[tactic(auto, using(crate::proofs::InPlace::slopes_first))]
 fn slopes(points: &[u16], values: &mut [u16], i: usize)
     requires { (length values.old ≡ length points.now) × (i < length points.now) }
@@ -151,7 +151,7 @@ fn linear(x: u16, words: &mut [u16], i: usize)
     for j in i..last {
         words[j] = field::add_product(words[j], minus, words[j + 1]);
     }
-    words[last] = field::add(words[last], 0);
+    words[last] = field::add(words[last], 0); // reduced, as the others are
 }
 
 // The coefficients, in place of the divided differences.

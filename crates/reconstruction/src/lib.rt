@@ -75,8 +75,9 @@ struct Word {
     value: u16,
 }
 
-// A station's shares, and the survivors of the votes, whose words are opened. Its functions ask for k < d, and for buffers of t + 1, n + 1 or d words:
-// t and d are known at run time only, and there is no type of an array of such a length.
+// A station's shares, and the survivors of the votes, whose words are opened. Words are plain indices below d, as members are below n. Buffers of t + 1, n + 1
+// or d words are lent, here and below: t and d are known at run time only, and a struct round a lent buffer would have to say in each contract whose words it
+// writes.
 #[derive(Clone, Copy)]
 struct Survivors<'a> {
     shares: Shares<'a>,
@@ -164,7 +165,7 @@ impl Survivors<'_> {
         requires k_lt_d { k < self.now.shares.shape.d }
         ensures { Came (own_points self.now.shares.shape.t) self.now.shares.shape.t (words self.now) self.now.set k result }
     {
-        let mut f = [0; 16];
+        let mut f = [0; 16]; // room for the values that are read, and then for coefficients
         let f = &mut f[..self.shares.shape.t + 1];
         let mut expected = [0; 32];
         let expected = &mut expected[..self.shares.shape.n + 1];
@@ -251,12 +252,11 @@ fn surviving(t: usize, rows: &[u32]) -> u32
 
 // How many usable members the quorum asks for: 0 stands for t + 2.
 #[tactic(auto, unfolding(crate::specs::Reconstruction::required))]
-fn required_members(t: usize, quorum: u16) -> usize
-    requires { t ≤ 15 }
-    ensures { result ≡ required t quorum }
+fn required_members(shape: Shape, quorum: u16) -> usize
+    ensures { result ≡ required shape.t quorum }
 {
     if quorum == 0 {
-        return t + 2;
+        return shape.t + 2;
     }
     usize::from(quorum)
 }
@@ -284,7 +284,7 @@ pub fn open_voted(
     requires secret_len { length secret.old ≡ shares.now.shape.d }
     ensures { answer_of result secret.new ≡ by_votes shares.now.shape quorum able rows.now shares.now.words.now }
 {
-    if (members::card(able) as usize) < required_members(shares.shape.t, quorum) {
+    if (members::card(able) as usize) < required_members(shares.shape, quorum) {
         return refuse(secret, Refusal::QuorumNotMet, 0);
     }
     let survivors = surviving(shares.shape.t, rows);
@@ -298,8 +298,8 @@ pub fn open_voted(
     left.open_all(secret)
 }
 
-// Opening after its checks: the usable members, their votes, and the second half. Day, present mask and quorum stay plain numbers, as the caller gives them: each
-// goes its own way from here, and a struct of the three would be made for this one call.
+// Opening after its checks: the usable members, their votes, and the second half. Day, present mask and quorum stay plain numbers, as the caller gives them:
+// each goes its own way from here, and a struct of the three would be made for this call and for `check` alone.
 #[tactic(auto, unfolding(members::specs::Members::size))]
 fn open_shares(
     shares: &Shares,

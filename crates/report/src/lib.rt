@@ -14,7 +14,7 @@ use text::Output;
 
 // A secret that was opened: who survived and who agrees, and the station's shape, by which the secret has d words.
 #[derive(Clone, Copy)]
-struct Secret {
+struct Answer {
     opened: Opened,
     shape: Shape,
 }
@@ -24,7 +24,7 @@ fn open_text(
     text: &[u8],
     words: &mut [u16; 4867],
     secret: &mut [u16; 64],
-) -> Result<Secret, Unopened>
+) -> Result<Answer, Unopened>
     ensures { answer_lines result secret.new ≡ report text.now }
 {
     let hand_in = handin::read(text, words).map_err(|refusal| Unopened {
@@ -41,7 +41,7 @@ fn open_text(
         &mut secret[..hand_in.d],
     );
     let opened = answer.outcome?;
-    Ok(Secret { opened, shape })
+    Ok(Answer { opened, shape })
 }
 
 // The line of a word, at its place counted from 1. No type holds the room that is asked for here and below: it is used up as lines are written.
@@ -67,7 +67,7 @@ fn put_words(secret: &[u16], output: &mut Output)
 
 // The lines of an answer, whose secret is at the front of the buffer: at most 27 bytes, and 14 for each word.
 #[tactic(auto, using(crate::proofs::Lines::lengths), unfolding(lists::specs::Ascii::ascii, crate::specs::Internal::Printing::answer_lines))]
-fn put_answer(answer: Result<Secret, Unopened>, buffer: &[u16; 64], output: &mut Output)
+fn put_answer(answer: Result<Answer, Unopened>, buffer: &[u16; 64], output: &mut Output)
     requires { output.old.end + 1024 ≤ length output.old.bytes.now }
     ensures same_reference { output.new.bytes.ghost_name ≡ output.old.bytes.ghost_name }
     ensures written { Written output.old.bytes.now output.old.end (answer_lines answer buffer.now) output.new.bytes.now output.new.end }
@@ -81,8 +81,8 @@ fn put_answer(answer: Result<Secret, Unopened>, buffer: &[u16; 64], output: &mut
     }
 }
 
-// The bytes that the program prints for a text, at the front of the buffer, and how many. (A part of the buffer as the answer would need a contract that ties the
-// part to the buffer that was lent.)
+// The bytes that the program prints for a text, at the front of the buffer, and how many. (A part of the buffer as the answer would need a contract that ties
+// the part to the buffer that was lent.)
 pub fn report(text: &[u8], output: &mut [u8; 1024]) -> usize
     ensures { Reported text.now output.old output.new result }
 {

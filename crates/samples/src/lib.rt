@@ -1,4 +1,4 @@
-// Words of a fixed sequence, on which the test programs run, and how they print words.
+// Words of a fixed sequence, on which the test programs run, how they print words, and how they read their input.
 #![tactic(auto)]
 
 ghost use Rattle.std.specs.Prelude.{◌≡◌, ℕ, ◌+◌, ◌*◌, ◌%◌, ◌<◌, ◌^◌, ◌++◌, length, flat_map, Some, IfOk, IfSome, OnOk};

@@ -85,7 +85,8 @@ pub struct Shares<'a> {
     pub ghost long: { length words.now ≡ shape.n * shape.width },
 }
 
-// Members are plain indices: each loop over 0..n has the bound already, and would have to make a value of a type of indices from it.
+// Members are plain indices, here and in the crates above: each loop over 0..n has the bound already, and would have to make a value of a type of indices from
+// it.
 impl<'a> Shares<'a> {
     ghost use Rattle.shares.specs.Layout.{share, share_word, share_words, tag_word_at, key_α, key_β};
 
@@ -140,8 +141,8 @@ impl<'a> Shares<'a> {
     }
 }
 
-// The keys of the first n members, by whatever gives one: α at each place of one array and β at each place of the other, since lanes take each in one piece.
-// No struct of the two arrays: mac takes them one by one, so a struct would need a type of its own that its next line takes apart.
+// The keys of the first n members, by whatever gives one: α at each place of one array and β at each place of the other: lanes take the α in one piece.
+// No struct of the two arrays: both callers hand them on to mac, which does not need this crate, and a struct would be taken apart in the next line.
 pub fn gather_keys<F: Fn(usize) -> Key>(
     n: usize,
     key: F,
@@ -163,6 +164,7 @@ pub fn gather_keys<F: Fn(usize) -> Key>(
 
 // So many members and words that it is quicker to make their share words by powers and their tags under all keys at once. Both ways answer the same. Each of
 // the three places where ways part tests this itself: a choice made once would need closures of three types, through each function in between.
+// It takes any t and d: a `Shape` has bounds, which it does not need.
 pub fn is_large(t: usize, d: usize) -> bool {
     8 <= t && 8 <= d
 }

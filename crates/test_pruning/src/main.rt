@@ -72,7 +72,8 @@ fn fill(rows: &mut [u32; 31], word: u32) -> u32 {
     x
 }
 
-// Row i of a chain, from 0, the first row aside. Members 2 to 16 have just 16 votes each: of the member before, their own and of the 14 after. The last 15 have all.
+// Row i of a chain, from 0, the first row aside. Members 2 to 16 have just 16 votes each: of the member before, their own and of the 14 after. The last 15 have
+// all.
 fn link(i: usize) -> u32 {
     if i < 16 {
         return 65535u32 << i >> 1;

@@ -114,8 +114,8 @@ fn digits_value(field: &[u8]) -> Option<u16>
     short(value)
 }
 
-// What a field stands for: the number of 1 to 5 digits with no leading zero, at most 65535. Not by `parse`, which takes a sign and leading zeros. A single byte goes its
-// own way: it may be 0, and the compiler then unrolls the loop for several (reading took 1.8 times as long without).
+// What a field stands for: the number of 1 to 5 digits with no leading zero, at most 65535. Not by `parse`, which takes a sign and leading zeros. A single byte
+// goes its own way: it may be 0, and the compiler then unrolls the loop for several (reading took 1.8 times as long without).
 #[tactic(auto, using(crate::proofs::Numerals::refused_fields))]
 fn numeral(field: &[u8]) -> Option<u16>
     ensures { result ≡ numeral_of field.now }
@@ -202,7 +202,8 @@ pub fn list_length(word: &[u8], first: u16, numbers: &[u16]) -> usize
 }
 
 // A buffer that bytes are written into, one after the other, and the place of the next. The caller reads its own buffer afterwards, so each contract says that
-// the bytes are still those of that buffer (same_reference), and what they are now.
+// the bytes are still those of that buffer (same_reference), and what they are now. The room that each asks for, here and in the crates above, is in no type:
+// it is used up as bytes are written.
 #[derive(Drop)]
 pub struct Output<'a> {
     bytes: &'a mut [u8],
@@ -249,8 +250,8 @@ impl<'a> Output<'a> {
         self.end = end;
     }
 
-    // The digits of a number, from the last down to the first. Printed by hand: the library needs nothing but memcpy and memset, so no formatter. The loop goes over
-    // places, since nothing would be known of the bytes after `iter_mut().rev()`.
+    // The digits of a number, from the last down to the first. Printed by hand: the library, whose writer prints a share's words by it, needs nothing but
+    // memcpy and memset, so no formatter. The loop goes over places, since nothing would be known of the bytes after `iter_mut().rev()`.
     fn put_digits(&mut self, n: u32)
         requires { self.old.end + length (digits 10 n) ≤ length self.old.bytes.now }
         ensures same_reference { self.new.bytes.ghost_name ≡ self.old.bytes.ghost_name }
@@ -299,8 +300,8 @@ impl<'a> Output<'a> {
         self.put_byte(10);
     }
 
-    // A line: a word and two numbers. These may be masks, too large for `put_list`: to print them by that, a share's words would have to be widened to u32 first,
-    // or four functions take a bound.
+    // A line: a word and two numbers. These may be masks, too large for `put_list`: to print them by that, a share's words would have to be widened to u32
+    // first, or four functions take a bound.
     pub fn put_line(&mut self, word: &[u8], a: u32, b: u32)
         requires { self.old.end + length word.now + length (field a) + length (field b) + 1 ≤ length self.old.bytes.now }
         ensures same_reference { self.new.bytes.ghost_name ≡ self.old.bytes.ghost_name }

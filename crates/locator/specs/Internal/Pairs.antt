@@ -1,5 +1,5 @@
 -- Two pairs of polynomials (N, E) are kept so that N(x) = y · E(x) at each member passed so far. A member at which a pair is off raises one pair by a
--- factor X − x and frees the other. No public contract of the library cites this.
+-- factor X − x and frees the other. No contract of a call of the documents cites this.
 -- Assumes nothing.
 use Rattle.std.specs.Prelude.{◌≡◌, ℕ, zero, suc, ◌+◌, Bool, cond, ◌&&◌, ◌||◌, not, List, [], ◌∷◌, leb, eqb, get_or, replicate}
 use Rattle.field.specs.Field.{sum, difference, product}
