@@ -5,7 +5,6 @@ use mathlib.Core.Bool.{Bool, true, false, ◌||◌, not}
 use mathlib.Core.List.{List, [], ◌∷◌}
 use Prim.Native.Nat.{ℕ, suc, ◌+◌, ◌≤◌, ◌<◌, ◌^◌, suc-le-suc}
 use native.Mathlib.Numerals.{add-one}
-use native.Mathlib.Omega.{arith}
 use lib.Dec.{leb, eqb}
 use lib.ListN.{length, get_or}
 use borrow.Author.Tests.{ltb-true, eqb-true, eq-eqb, ne_eqb, le-leb, lt-leb}
@@ -13,8 +12,8 @@ use Rattle.lists.specs.Tabulate.{all}
 use Rattle.lists.specs.Checks.{Check, ◌unless◌, checked}
 use Rattle.lists.proofs.Checks.{within_high}
 use Rattle.field.specs.Field.{is_field_word}
-use Rattle.members.specs.Members.{is_threshold, size, own_points, has, is_set, card, first_of}
-use Rattle.members.proofs.Words.{size-le, first_of-is_set, card_32}
+use Rattle.members.specs.Members.{is_threshold, size, own_points, has, is_set, card}
+use Rattle.members.proofs.Words.{card_32}
 use Rattle.decoding.specs.Internal.Outcome.{Accepted}
 use Rattle.decoding.specs.Decoding.{find, Decoded, undecoded, decoded_from, decode}
 
@@ -73,19 +72,11 @@ module _ (t : ℕ) (values : List ℕ) (set len : ℕ) where
         room : eqb len (suc t) ≡ true
         room = eq-eqb len (suc t) (c ∙ add-one t)
 
-        proper_test : leb set (first_of (size t)) ≡ is_set (size t) set
-        proper_test = first_of-is_set (size t) set (omega (arith, size-le t a))
-
-        pub refuses_12 : first_of (size t) < set → decode t values set len ≡ undecoded len 12
+        pub refuses_12 : is_set (size t) set ≡ false → decode t values set len ≡ undecoded len 12
         unfolding checks
-        refuses_12 h =
-            let beyond : is_set (size t) set ≡ false = sym proper_test ∙ lt-leb set (first_of (size t)) h in
-            by_checks ∙ rw (a, n_values, room, beyond)
+        refuses_12 h = by_checks ∙ rw (a, n_values, room, h)
 
-        module _ (d : set ≤ first_of (size t)) where
-          proper : is_set (size t) set ≡ true
-          proper = sym proper_test ∙ le-leb set (first_of (size t)) d
-
+        module _ (proper : is_set (size t) set ≡ true) where
           members : card 32 set ≡ card (size t) set
           members = card_32 t set (within_high 1 15 t a) (ltb-true set (2 ^ size t) proper)
 

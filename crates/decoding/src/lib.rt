@@ -154,7 +154,7 @@ fn check(t: usize, values: &[u16], set: u32, room: usize) -> Result<(), Refusal>
     if room != t + 1 {
         return Err(Refusal::BadCoefficientsLength);
     }
-    if members::first(n) < set {
+    if !members::is_set(n, set) {
         return Err(Refusal::MemberBeyondN);
     }
     if members::card(set) as usize <= t {

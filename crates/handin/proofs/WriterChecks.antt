@@ -1,7 +1,7 @@
 -- The writer's checks in their order, as the code makes them; and the text, where it fits.
 -- Assumes nothing.
 use mathlib.Core.Path.{◌≡◌, sym, ap, ap₂, ◌∙◌}
-use mathlib.Core.Bool.{true}
+use mathlib.Core.Bool.{true, false}
 use mathlib.Core.List.{List, ◌++◌}
 use Prim.Native.Nat.{ℕ, ◌+◌, ◌*◌, ◌≤◌, ◌<◌}
 use native.Mathlib.Omega.{arith}
@@ -9,12 +9,12 @@ use borrow.Author.Tests.{le-leb, lt-leb}
 use lib.Dec.{eqb}
 use lib.ListN.{length, drop, length-append}
 use Rattle.std.specs.Prelude.{Ok, Err}
-use Rattle.members.specs.Members.{size, first_of}
+use Rattle.members.specs.Members.{size, is_set}
 use Rattle.shares.specs.Layout.{width}
 use Rattle.shares.specs.Internal.FirstChecks.{Passed, Refused}
 use Rattle.shares.specs.declared.Shape.{Shape}
 use Rattle.shares.proofs.FirstChecks.{refused_first}
-use Rattle.shares.proofs.Tests.{wrong_length, right_length, beyond_n, within_n}
+use Rattle.shares.proofs.Tests.{wrong_length, right_length, set_tested}
 use Rattle.text.specs.Internal.Writing.{Written}
 use Rattle.text.proofs.Writing.{written_then, written_as, written_front, written_count}
 use Rattle.handin.specs.Writer.{HandInText, first_line, share_lines, text_of, unwritten, written, checks, write}
@@ -90,14 +90,14 @@ module _ (t d quorum day present : ℕ) (words buffer : List ℕ) where
       right : eqb (length words) (size t * width t d) ≡ true
       right = right_length s passed words long
 
-      pub wrote_12 : first_of s.n < present → written_of (Err MemberBeyondN) buffer ≡ write t d quorum day present words buffer
+      pub wrote_12 : is_set s.n present ≡ false → written_of (Err MemberBeyondN) buffer ≡ write t d quorum day present words buffer
       unfolding written_of write unwritten
-      wrote_12 h = rw (p.threshold, p.in_length, p.is_a_day, right, beyond_n s passed present h)
+      wrote_12 h = rw (p.threshold, p.in_length, p.is_a_day, right, set_tested s passed present h)
 
-      pub goes_on : present ≤ first_of s.n → (answer : HandInText) → answer ≡ fitted (text_of s.t s.d quorum day present words) buffer
+      pub goes_on : is_set s.n present ≡ true → (answer : HandInText) → answer ≡ fitted (text_of s.t s.d quorum day present words) buffer
           → answer ≡ write t d quorum day present words buffer
       unfolding write fitted
-      goes_on h answer e = e ∙ rw (passed.0, passed.1, p.threshold, p.in_length, p.is_a_day, right, within_n s passed present h)
+      goes_on h answer e = e ∙ rw (passed.0, passed.1, p.threshold, p.in_length, p.is_a_day, right, set_tested s passed present h)
 
 -- for the checks as the code makes them
 pub ruleset by_check = (wrote_first, wrote_11, wrote_12, goes_on)

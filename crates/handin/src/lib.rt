@@ -254,7 +254,7 @@ pub fn write(
     if shares.len() != shape.n * shape.width {
         return Err(Refusal::BadInputLength);
     }
-    if members::first(shape.n) < present {
+    if !members::is_set(shape.n, present) {
         return Err(Refusal::MemberBeyondN);
     }
     let source = Source {

@@ -6,18 +6,18 @@ use mathlib.Core.Bool.{Bool, true, false, ◌&&◌, ◌||◌, not, cond}
 use Prim.Native.Nat.{ℕ, zero, suc, ◌+◌, ◌-◌, ◌*◌, ◌%◌, ◌/◌, ◌^◌, ◌≤◌, ◌<◌, zero-le, suc-le-suc}
 use native.Mathlib.Nat.{le_refl, le-suc, le_of_eq, le_of_lt, le_of_suc-le-suc, eq-or-lt_of_le, lt_of_lt_of_le, lt_of_le_of_lt, le_trans, lt_irrefl, lt_of_not-le, one-mul}
 use native.Mathlib.Numerals.{add-one}
+use native.Mathlib.Decide.{dec_le}
 use native.Mathlib.Omega.{arith}
 use lib.Dec.{lit<, eqb, ltb, leb, leb-suc-suc}
 use lib.Arith.{lt_of_le-ne}
 use lib.Bits.{bit_and, bit_or, and_mask, and_le_l, or_lt}
 use lib.Count.{ones, count_trailing_zeros}
 use lib.Pow.{pow_mono, pow-lt, pow_pos, shl_exact}
-use borrow.Author.Tests.{eq-eqb, eqb-true, eqb-false, ne_eqb, lt-ltb, le-ltb, ltb-true, ltb-false}
+use borrow.Author.Tests.{eq-eqb, eqb-true, eqb-false, ne_eqb, le-leb, lt-ltb, le-ltb, ltb-true, ltb-false}
 use Rattle.lists.specs.Tabulate.{count}
 use Rattle.lists.proofs.Bools.{test, clash, or_no, or_yes, and_yes, and_no}
-use Rattle.lists.proofs.Checks.{within_high}
 use Rattle.lists.proofs.Count.{count_more, count-all}
-use Rattle.members.specs.Members.{is_threshold, size, has, set_of, is_set, card, adding, striking, first_of, common}
+use Rattle.members.specs.Members.{size, has, set_of, is_set, card, adding, striking, first_of, common}
 use Rattle.members.specs.Internal.Lowest.{First}
 use Rattle.members.proofs.Masks.{has-set_of, set_of-lt, set_of-has, set_of_ext, same_members, has-zero, has_above, has-and, has-or}
 use Rattle.members.proofs.Masks.{has-not, has-power, has_shift, has_below, has_lowest, ones-card, ones_and, suc_everyone, card_more}
@@ -106,10 +106,6 @@ pub card-first_of : (n : ℕ) → n ≤ 32 → card n (first_of n) ≡ n
 unfolding card
 card-first_of n l = count-all n (has (first_of n)) (λ i h. has-first_of n i l h)
 
--- a mask has no bit beyond the n members if it is at most all of them
-pub first_of-is_set : (n m : ℕ) → n ≤ 32 → leb m (first_of n) ≡ is_set n m
-first_of-is_set n m l = sym (leb-suc-suc m (first_of n)) ∙ ap (leb (suc m)) (first_of-power n l)
-
 -- a set of n members with one of them more
 pub set_of_more : (n i : ℕ) (p q : ℕ → Bool) → n ≤ 32 → i < n → q i ≡ true → ((j : ℕ) → j < n → (j ≡ i → ⊥) → q j ≡ p j) → adding (set_of n p) i ≡ set_of n q
 unfolding adding
@@ -172,9 +168,6 @@ size_31 t h = omega arith
 pub size_32 : (t : ℕ) → t ≤ 15 → size t ≤ 32
 size_32 t h = le_trans (size_31 t h) (le-suc 31)
 
-pub size-le : (t : ℕ) → is_threshold t ≡ true → size t ≤ 31
-size-le t h = size_31 t (within_high 1 15 t h)
-
 -- a loop that builds a set takes each member or leaves it
 pub set_of_step : (n : ℕ) (p : ℕ → Bool) (b : Bool) → n < 32 → b ≡ p n → cond b (adding (set_of n p) n) (set_of n p) ≡ set_of (n + 1) p
 set_of_step n p true h e = sym (ap (λ (m : ℕ). set_of m p) (add-one n) ∙ set_of_with n p h (sym e))
@@ -214,8 +207,19 @@ first_of-value n p e h = omega (arith, e, first_of-power n (le_of_lt h))
 pub first_of_whole : (n : ℕ) → 32 ≤ n → 4294967295 ≡ first_of n
 first_of_whole n h = omega (arith, first_of_beyond n h)
 
+-- a mask is a set of the first n members if it is at most all of them, also where n is beyond 32
+pub at_most_first : (n m f : ℕ) → m < 2 ^ 32 → f ≡ first_of n → leb m f ≡ is_set n m
+at_most_first n m f h e =
+    ap (leb m) e
+    ∙ elim (dec_le n 32) [
+      | yes l ↦ sym (leb-suc-suc m (first_of n)) ∙ ap (leb (suc m)) (first_of-power n l)
+      | no l ↦
+          let wide : 32 ≤ n = omega arith in
+          le-leb m (first_of n) (omega (arith, h, first_of_beyond n wide)) ∙ sym (lt-ltb m (2 ^ n) (lt_of_lt_of_le h (pow_mono wide)))
+    ]
+
 -- 1 moved up by i places, which fits below 32
 pub one_bit : (i : ℕ) → i < 32 → 1 * 2 ^ i % 2 ^ 32 ≡ 2 ^ i
 one_bit i h = shl_exact 1 i 32 (lit< tt) (omega arith) ∙ one-mul _
 
-pub ruleset words = (shift_has, has_beyond, adding-or, adding_beyond, striking-and, striking_beyond, common-ones, card-ones, lowest_first, first_of-value, first_of_whole, one_bit)
+pub ruleset words = (shift_has, has_beyond, adding-or, adding_beyond, striking-and, striking_beyond, common-ones, card-ones, lowest_first, first_of-value, first_of_whole, at_most_first, one_bit)

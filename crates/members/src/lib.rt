@@ -3,7 +3,7 @@
 
 ghost use Rattle.std.specs.Prelude.{◌≡◌, ℕ, Bool, suc, ◌<◌, ◌≤◌, ◌^◌, length};
 ghost use Rattle.lists.specs.Tabulate.{tab};
-ghost use Rattle.members.specs.Members.{is_threshold, size, has, set_of, card, adding, striking, first_of, common};
+ghost use Rattle.members.specs.Members.{is_threshold, size, has, set_of, is_set, card, adding, striking, first_of, common};
 ghost use Rattle.members.specs.Internal.Lowest.{Lowest};
 
 // A station's threshold is 1 to 15.
@@ -89,6 +89,13 @@ pub fn first(n: usize) -> u32
         return u32::MAX;
     }
     only(n) - 1
+}
+
+// The mask is a set of the first n members.
+pub fn is_set(n: usize, set: u32) -> bool
+    ensures { result ≡ is_set n set }
+{
+    set <= first(n)
 }
 
 // The members below n that pass a test.

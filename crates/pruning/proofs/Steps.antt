@@ -1,14 +1,14 @@
 -- A law for each step of the loops in the code.
 -- Assumes nothing.
-use mathlib.Core.Path.{◌≡◌, refl, sym, ap, ap₂, ◌∙◌, subst}
+use mathlib.Core.Path.{◌≡◌, refl, sym, ap, ◌∙◌, subst}
 use mathlib.Core.Logic.{◌⊎◌, inl, inr, ⊎_elim}
-use mathlib.Core.Bool.{true, false, ◌&&◌, not}
+use mathlib.Core.Bool.{Bool, true, false, ◌&&◌, not}
 use mathlib.Core.List.{List, [], ◌∷◌}
 use Prim.Native.Nat.{ℕ, suc, ◌+◌, ◌≤◌, ◌<◌, ◌^◌}
 use native.Mathlib.Nat.{le_trans, le_of_lt, lt_trans, lt_of_lt_of_le, lt_of_le_of_lt, not-le_of_lt}
 use native.Mathlib.Numerals.{add-one}
 use native.Mathlib.Omega.{arith}
-use lib.Dec.{leb, eqb}
+use lib.Dec.{eqb}
 use lib.ListN.{length, get_or, drop}
 use lib.Pow.{pow_mono}
 use borrow.Author.Tests.{eqb-true, ne_eqb}
@@ -21,7 +21,7 @@ use Rattle.lists.proofs.Tabulate.{length-tab, get_or-tab}
 use Rattle.members.specs.Members.{size, has, is_set, striking, first_of, common}
 use Rattle.members.specs.Internal.Lowest.{First}
 use Rattle.members.proofs.Masks.{has-zero, has_inside}
-use Rattle.members.proofs.Words.{size_32, first_of-all, first_of-lt, first_of-is_set, common-count, has-striking, striking_less}
+use Rattle.members.proofs.Words.{size_32, first_of-all, first_of-lt, common-count, has-striking, striking_less}
 use Rattle.pruning.specs.Pruning.{votes, survivors}
 use Rattle.pruning.specs.Counts.{Table, counted, AfterStrike}
 use Rattle.pruning.specs.Internal.Steps.{Short, NobodyShort}
@@ -30,11 +30,10 @@ use Rattle.pruning.proofs.Counts.{votes_apart}
 
 -- ---- rows that are sets
 
-pub rows_tested : (n : ℕ) (rows : List ℕ) (all : ℕ) → n ≤ 32 → all ≡ first_of n → list_all (λ row. leb row all) rows ≡ each (is_set n) rows
+pub rows_tested : (n : ℕ) (rows : List ℕ) → list_all (is_set n) rows ≡ each (is_set n) rows
 unfolding each
-rows_tested n [] all few e = refl
-rows_tested n (row ∷ rows) all few e =
-    ap₂ ◌&&◌ (ap (leb row) e ∙ first_of-is_set n row few) (rows_tested n rows all few e)
+rows_tested n [] = refl
+rows_tested n (row ∷ rows) = ap (λ (b : Bool). is_set n row && b) (rows_tested n rows)
 
 -- ---- counting
 

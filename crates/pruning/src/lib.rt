@@ -13,11 +13,9 @@ use refusals::Refusal;
 
 // Every row is a set of the n members.
 fn sets(n: usize, rows: &[u32]) -> bool
-    requires { n ≤ 32 }
     ensures { result ≡ each (is_set n) rows.now }
 {
-    let all = members::first(n);
-    rows.iter().all(|row| *row <= all)
+    rows.iter().all(|row| members::is_set(n, *row))
 }
 
 // A member's votes once i is struck: one fewer if i accepted it.

@@ -3,17 +3,17 @@
 use mathlib.Core.Path.{◌≡◌, sym, ap, ap₂, ◌∙◌}
 use mathlib.Core.Bool.{true, false}
 use mathlib.Core.List.{List}
-use Prim.Native.Nat.{ℕ, ◌*◌, ◌≤◌, ◌<◌, ◌^◌}
+use Prim.Native.Nat.{ℕ, ◌*◌, ◌^◌}
 use lib.Dec.{eqb}
 use lib.ListN.{length, drop}
 use borrow.Author.Tests.{eqb-true, ltb-true}
-use Rattle.members.specs.Members.{size, own_points, is_set, first_of}
+use Rattle.members.specs.Members.{size, own_points, is_set}
 use Rattle.shares.specs.Layout.{width, share_word}
 use Rattle.voting.specs.Votes.{usable, vote_rows, pairs}
 use Rattle.shares.specs.Internal.FirstChecks.{Passed, Refused}
 use Rattle.shares.specs.declared.Shape.{Shape}
 use Rattle.shares.proofs.FirstChecks.{refused_first}
-use Rattle.shares.proofs.Tests.{wrong_length, right_length, beyond_n, within_n}
+use Rattle.shares.proofs.Tests.{wrong_length, right_length, set_tested}
 use Rattle.reconstruction.specs.Reconstruction.{Answered, turned_away, is_quorum, finish, checks, reconstruct}
 use Rattle.reconstruction.specs.Internal.Steps.{Accepted}
 use Rattle.reconstruction.proofs.Opening.{reconstruct_finishes}
@@ -46,13 +46,13 @@ module _ (t d day present quorum : ℕ) (words : List ℕ) where
       as_long : eqb (length words) (size t * width t d) ≡ true
       as_long = right_length s passed words long
 
-      pub refused_12 : first_of s.n < present → answered ≡ turned_away d 12
+      pub refused_12 : is_set s.n present ≡ false → answered ≡ turned_away d 12
       unfolding reconstruct
-      refused_12 h = rw (p.threshold, p.in_length, p.is_a_day, as_long, beyond_n s passed present h)
+      refused_12 h = rw (p.threshold, p.in_length, p.is_a_day, as_long, set_tested s passed present h)
 
-      module _ (le : present ≤ first_of s.n) where
+      module _ (proper : is_set s.n present ≡ true) where
         is_a_set : is_set (size t) present ≡ true
-        is_a_set = within_n s passed present le
+        is_a_set = set_tested s passed present proper
 
         pub refused_13 : is_quorum s.t quorum ≡ false → answered ≡ turned_away d 13
         unfolding reconstruct

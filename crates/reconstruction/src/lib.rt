@@ -337,7 +337,7 @@ fn check(
     if shares.len() != shape.n * shape.width {
         return Err(Refusal::BadInputLength);
     }
-    if members::first(shape.n) < present {
+    if !members::is_set(shape.n, present) {
         return Err(Refusal::MemberBeyondN);
     }
     if !is_quorum(shape, quorum) {

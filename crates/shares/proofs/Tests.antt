@@ -1,16 +1,15 @@
 -- The tests of how many words there are and of a mask, as the code makes them by a station's shape; and what a day is below.
 -- Assumes nothing.
 use mathlib.Core.Path.{◌≡◌, sym, ap, ap₂, ◌∙◌}
-use mathlib.Core.Bool.{true, false}
+use mathlib.Core.Bool.{Bool, true, false}
 use mathlib.Core.List.{List}
-use Prim.Native.Nat.{ℕ, ◌*◌, ◌≤◌, ◌<◌}
+use Prim.Native.Nat.{ℕ, ◌*◌, ◌<◌}
 use native.Mathlib.Omega.{arith}
-use lib.Dec.{leb, eqb}
+use lib.Dec.{eqb}
 use lib.ListN.{length}
-use borrow.Author.Tests.{eq-eqb, ne_eqb, le-leb, lt-leb}
+use borrow.Author.Tests.{eq-eqb, ne_eqb}
 use Rattle.lists.proofs.Checks.{within_high}
-use Rattle.members.specs.Members.{size, is_set, first_of}
-use Rattle.members.proofs.Words.{first_of-is_set, size_31}
+use Rattle.members.specs.Members.{size, is_set}
 use Rattle.shares.specs.Layout.{is_day, width}
 use Rattle.shares.specs.Internal.FirstChecks.{Passed}
 use Rattle.shares.specs.declared.Shape.{Shape}
@@ -31,14 +30,5 @@ module _ {t d day : ℕ} (s : Shape) (passed : (s.t ≡ t) × (s.d ≡ d) × Pas
     pub right_length : length words ≡ s.n * s.width → eqb (length words) (size t * width t d) ≡ true
     right_length h = eq-eqb (length words) (size t * width t d) (h ∙ all_words)
 
-  module _ (present : ℕ) where
-    tested : leb present (first_of s.n) ≡ is_set (size t) present
-    tested =
-        ap (λ (n : ℕ). leb present (first_of n)) (s.members ∙ ap size passed.0)
-        ∙ first_of-is_set (size t) present (omega (arith, size_31 t (within_high 1 15 t passed.2.threshold)))
-
-    pub beyond_n : first_of s.n < present → is_set (size t) present ≡ false
-    beyond_n h = sym tested ∙ lt-leb present (first_of s.n) h
-
-    pub within_n : present ≤ first_of s.n → is_set (size t) present ≡ true
-    within_n h = sym tested ∙ le-leb present (first_of s.n) h
+  pub set_tested : {b : Bool} (present : ℕ) → is_set s.n present ≡ b → is_set (size t) present ≡ b
+  set_tested present h = ap (λ (n : ℕ). is_set n present) (sym (s.members ∙ ap size passed.0)) ∙ h
