@@ -53,13 +53,13 @@ counted_long t rows set counts e = ap length e ∙ length-tab (size t) (votes t 
 -- ---- one strike
 
 -- a count that the strike of member i has not come to yet is that member's vote and the votes that are left
-pub vote_there : (t : ℕ) (rows : List ℕ) (set i k : ℕ) (counts : List ℕ) → Table t rows → i < size t → has set i ≡ true → k < size t
+pub vote_there : (t : ℕ) (rows : List ℕ) (set i k : ℕ) (counts : List ℕ) → Table t rows → set < 2 ^ size t → has set i ≡ true → k < size t
     → drop k counts ≡ drop k (counted t rows set) → get_or counts k 0 ≡ to_ℕ (has (get_or rows k 0) i) + votes t rows (striking set i) k
 unfolding counted
-vote_there t rows set i k counts table inside member h kept =
+vote_there t rows set i k counts table below member h kept =
     read_kept counts (tab (size t) (votes t rows set)) k 0 kept
     ∙ get_or-tab (size t) (votes t rows set) k 0 h
-    ∙ votes_apart t rows set i table.few inside member k
+    ∙ votes_apart t rows set i table.few (has_inside (size t) set i below member) member k
 
 -- ---- the next short member
 
@@ -103,63 +103,52 @@ module _ (need from : ℕ) (counts : List ℕ) where
 
 -- ---- all strikes
 
--- some are struck, none of them in a closed set, and the counts are those of the members left
-pub record Going (t : ℕ) (rows : List ℕ) (set : ℕ) (counts : List ℕ) : Type 0 where
-  pub below : set < 2 ^ size t
-  pub above : Above t rows set
-  pub exact : counts ≡ counted t rows set
-
 module _ (t : ℕ) (rows : List ℕ) (table : Table t rows) where
   room : size t ≤ 32
   room = size_32 t table.few
 
-  pub going_first : (n set : ℕ) (counts : List ℕ) → n ≡ size t → set ≡ first_of n → counts ≡ counted t rows (first_of (size t)) → Going t rows set counts
-  going_first n set counts sized all e =
-      let everybody : set ≡ first_of (size t) = all ∙ ap first_of sized in
-      record {
-        below = subst (λ (x : ℕ). x < 2 ^ size t) (sym everybody) (first_of-lt (size t) room);
-        above = subst (Above t rows) (sym (everybody ∙ first_of-all (size t) room)) (above_all t rows);
-        exact = e ∙ ap (counted t rows) (sym everybody);
-      }
+  pub everybody_below : (n set : ℕ) → n ≡ size t → set ≡ first_of n → set < 2 ^ size t
+  everybody_below n set sized all = subst (λ (x : ℕ). x < 2 ^ size t) (sym (all ∙ ap first_of sized)) (first_of-lt (size t) room)
 
-  module _ (set : ℕ) (counts : List ℕ) (going : Going t rows set counts) where
-    pub going_below : set < 2 ^ length counts
-    going_below = subst (λ (n : ℕ). set < 2 ^ n) (sym (counted_long t rows set counts going.exact)) going.below
+  pub everybody_above : (set : ℕ) → set ≡ first_of (size t) → Above t rows set
+  everybody_above set all = subst (Above t rows) (sym (all ∙ first_of-all (size t) room)) (above_all t rows)
 
-    count_of : (k : ℕ) → k < size t → get_or counts k 0 ≡ votes t rows set k
-    unfolding counted
-    count_of k h = ap (λ (l : List ℕ). get_or l k 0) going.exact ∙ get_or-tab (size t) (votes t rows set) k 0 h
+  module _ (set : ℕ) (below : set < 2 ^ size t) where
+    pub narrow : set < 2 ^ 32
+    narrow = lt_of_lt_of_le below (pow_mono room)
 
-    -- nobody is short: the set is closed
-    pub going_done : (need : ℕ) → t + 1 ≤ need → NobodyShort need set counts → set ≡ survivors t rows
-    going_done need most nobody = struck_survivors t rows set going.below going.above (record { accepted = votes_enough })
-      where
-        votes_enough : (k : ℕ) → k < size t → has set k ≡ true → suc t ≤ votes t rows set k
-        votes_enough k l y = omega (arith, most, count_of k l, nobody.enough k y)
+    module _ (counts : List ℕ) (exact : counts ≡ counted t rows set) where
+      pub counts_long : set < 2 ^ length counts
+      counts_long = subst (λ (n : ℕ). set < 2 ^ n) (sym (counted_long t rows set counts exact)) below
 
-    module _ (need i : ℕ) (first : Short need set counts i) where
-      pub short_inside : i < size t
-      short_inside = has_inside (size t) set i going.below first.member
+      count_of : (k : ℕ) → k < size t → get_or counts k 0 ≡ votes t rows set k
+      unfolding counted
+      count_of k h = ap (λ (l : List ℕ). get_or l k 0) exact ∙ get_or-tab (size t) (votes t rows set) k 0 h
 
-      votes_few : votes t rows set i < need
-      votes_few = omega (arith, count_of i short_inside, first.short)
+      -- nobody is short: the set is closed
+      pub nobody_survivors : Above t rows set → NobodyShort (t + 1) set counts → set ≡ survivors t rows
+      nobody_survivors above nobody = struck_survivors t rows set below above (record { accepted = votes_enough })
+        where
+          votes_enough : (k : ℕ) → k < size t → has set k ≡ true → suc t ≤ votes t rows set k
+          votes_enough k l y = omega (arith, count_of k l, nobody.enough k y)
 
-      module _ (left : ℕ) (after : List ℕ) (strike : AfterStrike t rows set i left after) where
-        keeps : need ≤ t + 1 → (k : ℕ) → k < size t → has set k ≡ true → suc t ≤ votes t rows set k → has left k ≡ true
-        keeps most k l y v =
-            ap (λ (x : ℕ). has x k) strike.without ∙ has-striking set i k (lt_of_lt_of_le l room)
-            ∙ and_intro y (ap not (ne_eqb k i (λ e. not-le_of_lt (lt_of_lt_of_le votes_few most) (rw add-one (subst (λ (x : ℕ). suc t ≤ votes t rows set x) e v)))))
+      module _ (i : ℕ) (first : Short (t + 1) set counts i) (left : ℕ) (without : left ≡ striking set i) where
+        votes_few : votes t rows set i < t + 1
+        votes_few = omega (arith, count_of i (has_inside (size t) set i below first.member), first.short)
 
-        narrow : set < 2 ^ 32
-        narrow = lt_of_lt_of_le going.below (pow_mono room)
+        keeps : (k : ℕ) → k < size t → has set k ≡ true → suc t ≤ votes t rows set k → has left k ≡ true
+        keeps k l y v =
+            ap (λ (x : ℕ). has x k) without ∙ has-striking set i k (lt_of_lt_of_le l room)
+            ∙ and_intro y (ap not (ne_eqb k i (λ e. not-le_of_lt votes_few (rw add-one (subst (λ (x : ℕ). suc t ≤ votes t rows set x) e v)))))
 
-        pub going_less : left < set
-        going_less = subst (λ (x : ℕ). x < set) (sym strike.without) (striking_less set i narrow (lt_of_lt_of_le short_inside room) first.member)
+        pub short_above : Above t rows set → Above t rows left
+        short_above above = above_strike t rows set left above keeps
 
-        pub going_on : need ≤ t + 1 → Going t rows left after
-        going_on most =
-            record {
-              below = lt_trans going_less going.below;
-              above = above_strike t rows set left going.above (keeps most);
-              exact = strike.exact;
-            }
+    module _ (i left : ℕ) (member : has set i ≡ true) (without : left ≡ striking set i) where
+      pub struck_less : left < set
+      struck_less =
+          let inside : i < size t = has_inside (size t) set i below member in
+          subst (λ (x : ℕ). x < set) (sym without) (striking_less set i narrow (lt_of_lt_of_le inside room) member)
+
+      pub struck_below : left < 2 ^ size t
+      struck_below = lt_trans struck_less below
