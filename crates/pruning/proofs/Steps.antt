@@ -101,54 +101,14 @@ module _ (need from : ℕ) (counts : List ℕ) where
         other k r (inl y) = inr (subst (λ (x : ℕ). need ≤ get_or counts x 0) (sym (eqb-true k i y)) h)
         other k r (inr n) = inl (at k (has_inside 32 rest k small r) ∙ and_intro r (ap not n))
 
--- ---- all strikes
+-- ---- the set
 
 module _ (t : ℕ) (rows : List ℕ) (table : Table t rows) where
-  room : size t ≤ 32
-  room = size_32 t table.few
-
   pub everybody_below : (n set : ℕ) → n ≡ size t → set ≡ first_of n → set < 2 ^ size t
-  everybody_below n set sized all = subst (λ (x : ℕ). x < 2 ^ size t) (sym (all ∙ ap first_of sized)) (first_of-lt (size t) room)
+  everybody_below n set sized all = subst (λ (x : ℕ). x < 2 ^ size t) (sym (all ∙ ap first_of sized)) (first_of-lt (size t) (size_32 t table.few))
 
-  pub everybody_above : (set : ℕ) → set ≡ first_of (size t) → Above t rows set
-  everybody_above set all = subst (Above t rows) (sym (all ∙ first_of-all (size t) room)) (above_all t rows)
-
-  module _ (set : ℕ) (below : set < 2 ^ size t) where
-    pub narrow : set < 2 ^ 32
-    narrow = lt_of_lt_of_le below (pow_mono room)
-
-    module _ (counts : List ℕ) (exact : counts ≡ counted t rows set) where
-      pub counts_long : set < 2 ^ length counts
-      counts_long = subst (λ (n : ℕ). set < 2 ^ n) (sym (counted_long t rows set counts exact)) below
-
-      count_of : (k : ℕ) → k < size t → get_or counts k 0 ≡ votes t rows set k
-      unfolding counted
-      count_of k h = ap (λ (l : List ℕ). get_or l k 0) exact ∙ get_or-tab (size t) (votes t rows set) k 0 h
-
-      -- nobody is short: the set is closed
-      pub nobody_survivors : Above t rows set → NobodyShort (t + 1) set counts → set ≡ survivors t rows
-      nobody_survivors above nobody = struck_survivors t rows set below above (record { accepted = votes_enough })
-        where
-          votes_enough : (k : ℕ) → k < size t → has set k ≡ true → suc t ≤ votes t rows set k
-          votes_enough k l y = omega (arith, count_of k l, nobody.enough k y)
-
-      module _ (i : ℕ) (first : Short (t + 1) set counts i) (left : ℕ) (without : left ≡ striking set i) where
-        votes_few : votes t rows set i < t + 1
-        votes_few = omega (arith, count_of i (has_inside (size t) set i below first.member), first.short)
-
-        keeps : (k : ℕ) → k < size t → has set k ≡ true → suc t ≤ votes t rows set k → has left k ≡ true
-        keeps k l y v =
-            ap (λ (x : ℕ). has x k) without ∙ has-striking set i k (lt_of_lt_of_le l room)
-            ∙ and_intro y (ap not (ne_eqb k i (λ e. not-le_of_lt votes_few (rw add-one (subst (λ (x : ℕ). suc t ≤ votes t rows set x) e v)))))
-
-        pub short_above : Above t rows set → Above t rows left
-        short_above above = above_strike t rows set left above keeps
-
-    module _ (i left : ℕ) (member : has set i ≡ true) (without : left ≡ striking set i) where
-      pub struck_less : left < set
-      struck_less =
-          let inside : i < size t = has_inside (size t) set i below member in
-          subst (λ (x : ℕ). x < set) (sym without) (striking_less set i narrow (lt_of_lt_of_le inside room) member)
-
-      pub struck_below : left < 2 ^ size t
-      struck_below = lt_trans struck_less below
+  pub struck_below : (set i left : ℕ) → set < 2 ^ size t → has set i ≡ true → left ≡ striking set i → left < 2 ^ size t
+  struck_below set i left below member without =
+      let inside : i < size t = has_inside (size t) set i below member in
+      let room : size t ≤ 32 = size_32 t table.few in
+      lt_trans (subst (λ (x : ℕ). x < set) (sym without) (striking_less set i (lt_of_lt_of_le below (pow_mono room)) (lt_of_lt_of_le inside room) member)) below

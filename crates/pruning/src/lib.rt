@@ -64,25 +64,17 @@ impl<'a> Votes<'a> {
         }
     }
 
-    // Strikes short members one after the other, from everybody on, until nobody is short. Gives those left.
-    fn strike_short(&self, counts: &mut [u32]) -> u32
-        requires { length counts.old ≡ size self.now.t }
-        ensures { result ≡ survivors self.now.t self.now.rows.now }
-    {
-        let mut left = self.count(counts);
-        while let Some(i) = left.next_short() {
-            left = left.strike(i);
-        }
-        left.set
-    }
-
-    // The survivors. Makes the room for n counts.
-    #[tactic(auto, unfolding(members::specs::Members::size))]
+    // The survivors: short members are struck one after the other, from everybody on, until nobody is short.
+    #[tactic(auto, using(crate::proofs::Striking::going_first, crate::proofs::Striking::going_less, crate::proofs::Striking::going_on, crate::proofs::Striking::going_done), unfolding(members::specs::Members::size))]
     fn survivors(&self) -> u32
         ensures { result ≡ survivors self.now.t self.now.rows.now }
     {
         let mut counts = [0u32; 31];
-        self.strike_short(&mut counts[..members::size(self.t)])
+        let mut left = self.count(&mut counts[..members::size(self.t)]);
+        while let Some(i) = left.next_short() {
+            left = left.strike(i);
+        }
+        left.set
     }
 }
 
