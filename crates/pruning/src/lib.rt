@@ -48,7 +48,7 @@ struct Remaining<'a, 'c> {
 
 impl<'a> Votes<'a> {
     // Everybody, with the votes that each member has from everybody.
-    #[tactic(auto, using(lists::proofs::Loops::writes, crate::proofs::Steps::votes_counted), unfolding(crate::specs::Counts::counted))]
+    #[tactic(auto, using(lists::proofs::Loops::writes, crate::proofs::Steps::votes_counted, crate::proofs::Striking::everybody_below), unfolding(crate::specs::Counts::counted))]
     fn count<'c>(&self, counts: &'c mut [u32]) -> Remaining<'a, 'c>
         requires { length counts.old ≡ size self.now.t }
         ensures { (result.votes ≡ self.now) × (result.set ≡ first_of (size self.now.t)) }
@@ -80,6 +80,7 @@ impl<'a> Votes<'a> {
 
 impl<'a, 'c> Remaining<'a, 'c> {
     // The first who is short of t + 1 votes; None: nobody is. A mask is no slice to iterate: its lowest member is looked at, and left out.
+    #[tactic(auto, using(crate::proofs::Striking::looking_inside, crate::proofs::Striking::looking_next, crate::proofs::Striking::looking_none))]
     fn next_short(&self) -> Option<usize>
         ensures { FirstShort (self.now.votes.t + 1) self.now.set self.now.counts.now result }
     {
@@ -95,7 +96,7 @@ impl<'a, 'c> Remaining<'a, 'c> {
     }
 
     // Those left once member i is struck: its vote is taken off the count of each whom it accepted.
-    #[tactic(auto, using(lists::proofs::Loops::rewrites, crate::proofs::Steps::vote_there, crate::proofs::Steps::counted_long, crate::proofs::Steps::struck_below), unfolding(crate::specs::Counts::counted))]
+    #[tactic(auto, using(lists::proofs::Loops::rewrites, crate::proofs::Steps::vote_there, crate::proofs::Steps::counted_long, crate::proofs::Striking::struck_below), unfolding(crate::specs::Counts::counted))]
     fn strike(self, i: usize) -> Remaining<'a, 'c>
         requires { has self.set i ≡ true }
         ensures same_votes { result.votes ≡ self.entry.votes }
