@@ -4,3 +4,4 @@ pub mod Counts
 pub mod Examples
 pub mod Largest
 pub mod Steps
+pub mod Striking

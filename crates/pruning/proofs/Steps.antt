@@ -1,31 +1,21 @@
 -- A law for each step of the loops in the code.
 -- Assumes nothing.
-use mathlib.Core.Path.{◌≡◌, refl, sym, ap, ◌∙◌, subst}
-use mathlib.Core.Logic.{◌⊎◌, inl, inr, ⊎_elim}
-use mathlib.Core.Bool.{Bool, true, false, ◌&&◌, not}
+use mathlib.Core.Path.{◌≡◌, refl, ap, ap₂, ◌∙◌}
+use mathlib.Core.Bool.{true, ◌&&◌}
 use mathlib.Core.List.{List, [], ◌∷◌}
-use Prim.Native.Nat.{ℕ, suc, ◌+◌, ◌≤◌, ◌<◌, ◌^◌}
-use native.Mathlib.Nat.{le_trans, le_of_lt, lt_trans, lt_of_lt_of_le, lt_of_le_of_lt, not-le_of_lt}
-use native.Mathlib.Numerals.{add-one}
-use native.Mathlib.Omega.{arith}
-use lib.Dec.{eqb}
+use Prim.Native.Nat.{ℕ, ◌+◌, ◌≤◌, ◌<◌, ◌^◌}
+use lib.Dec.{leb}
 use lib.ListN.{length, get_or, drop}
-use lib.Pow.{pow_mono}
-use borrow.Author.Tests.{eqb-true, ne_eqb}
 use Rattle.std.specs.List.{list_all}
 use Rattle.lists.specs.Tabulate.{tab, each}
-use Rattle.lists.proofs.Bools.{and_intro, and_left, test, clash}
 use Rattle.lists.proofs.Count.{to_ℕ}
 use Rattle.lists.proofs.Loops.{read_kept}
 use Rattle.lists.proofs.Tabulate.{length-tab, get_or-tab}
 use Rattle.members.specs.Members.{size, has, is_set, striking, first_of, common}
-use Rattle.members.specs.Internal.Lowest.{First}
-use Rattle.members.proofs.Masks.{has-zero, has_inside}
-use Rattle.members.proofs.Words.{size_32, first_of-all, first_of-lt, common-count, has-striking, striking_less}
-use Rattle.pruning.specs.Pruning.{votes, survivors}
-use Rattle.pruning.specs.Counts.{Table, counted, AfterStrike}
-use Rattle.pruning.specs.Internal.Steps.{Short, NobodyShort}
-use Rattle.pruning.proofs.Largest.{Above, above_strike, above_all, struck_survivors}
+use Rattle.members.proofs.Masks.{has_inside}
+use Rattle.members.proofs.Words.{size_32, first_of-lt, first_of-is_set, common-count}
+use Rattle.pruning.specs.Pruning.{votes}
+use Rattle.pruning.specs.Counts.{Table, counted}
 use Rattle.pruning.proofs.Counts.{votes_apart}
 
 -- ---- rows that are sets
@@ -52,113 +42,10 @@ counted_long t rows set counts e = ap length e ∙ length-tab (size t) (votes t 
 -- ---- one strike
 
 -- a count that the strike of member i has not come to yet is that member's vote and the votes that are left
-pub vote_there : (t : ℕ) (rows : List ℕ) (set i k : ℕ) (counts : List ℕ) → Table t rows → i < size t → has set i ≡ true → k < size t
+pub vote_there : (t : ℕ) (rows : List ℕ) (set i k : ℕ) (counts : List ℕ) → Table t rows → set < 2 ^ size t → has set i ≡ true → k < size t
     → drop k counts ≡ drop k (counted t rows set) → get_or counts k 0 ≡ to_ℕ (has (get_or rows k 0) i) + votes t rows (striking set i) k
 unfolding counted
-vote_there t rows set i k counts table inside member h kept =
+vote_there t rows set i k counts table below member h kept =
     read_kept counts (tab (size t) (votes t rows set)) k 0 kept
     ∙ get_or-tab (size t) (votes t rows set) k 0 h
-    ∙ votes_apart t rows set i table.few inside member k
-
--- ---- the next short member
-
--- those of the set that are looked at already have enough
-pub record Looking (need from : ℕ) (counts : List ℕ) (rest : ℕ) : Type 0 where
-  pub most : rest ≤ from
-  pub part : (k : ℕ) → has rest k ≡ true → has from k ≡ true
-  pub enough : (k : ℕ) → has from k ≡ true → (has rest k ≡ true) ⊎ (need ≤ get_or counts k 0)
-
-module _ (need from : ℕ) (counts : List ℕ) where
-  pub looking_none : (rest : ℕ) → Looking need from counts rest → rest ≡ 0 → NobodyShort need from counts
-  looking_none rest l e =
-      record {
-        enough = λ k y. ⊎_elim (λ r. absurd (clash r (ap (λ (x : ℕ). has x k) e ∙ has-zero k))) (λ e. e) (l.enough k y);
-      }
-
-  module _ (rest i : ℕ) (looking : Looking need from counts rest) (low : First rest i) (narrow : from < 2 ^ 32) where
-    small : rest < 2 ^ 32
-    small = lt_of_le_of_lt looking.most narrow
-
-    pub looking_inside : from < 2 ^ length counts → i < length counts
-    looking_inside h = has_inside (length counts) rest i (lt_of_le_of_lt looking.most h) low.member
-
-    pub looking_less : (next : ℕ) → next ≡ striking rest i → next < rest
-    looking_less next e = subst (λ (x : ℕ). x < rest) (sym e) (striking_less rest i small low.inside low.member)
-
-    pub looking_next : (next : ℕ) → next ≡ striking rest i → need ≤ get_or counts i 0 → Looking need from counts next
-    looking_next next e h =
-        record {
-          most = le_trans (le_of_lt (looking_less next e)) looking.most;
-          part = λ k y. looking.part k (and_left (has rest k) (not (eqb k i)) (sym (at k (has_inside 32 next k (lt_trans (looking_less next e) small) y)) ∙ y));
-          enough = λ k y. ⊎_elim (λ r. other k r (test (eqb k i))) inr (looking.enough k y);
-        }
-      where
-        at : (k : ℕ) → k < 32 → has next k ≡ has rest k && not (eqb k i)
-        at k l = ap (λ (x : ℕ). has x k) e ∙ has-striking rest i k l
-
-        other : (k : ℕ) → has rest k ≡ true → (eqb k i ≡ true) ⊎ (eqb k i ≡ false) → (has next k ≡ true) ⊎ (need ≤ get_or counts k 0)
-        other k r (inl y) = inr (subst (λ (x : ℕ). need ≤ get_or counts x 0) (sym (eqb-true k i y)) h)
-        other k r (inr n) = inl (at k (has_inside 32 rest k small r) ∙ and_intro r (ap not n))
-
--- ---- all strikes
-
--- some are struck, none of them in a closed set, and the counts are those of the members left
-pub record Going (t : ℕ) (rows : List ℕ) (set : ℕ) (counts : List ℕ) : Type 0 where
-  pub below : set < 2 ^ size t
-  pub above : Above t rows set
-  pub exact : counts ≡ counted t rows set
-
-module _ (t : ℕ) (rows : List ℕ) (table : Table t rows) where
-  room : size t ≤ 32
-  room = size_32 t table.few
-
-  pub going_first : (n set : ℕ) (counts : List ℕ) → n ≡ size t → set ≡ first_of n → counts ≡ counted t rows (first_of (size t)) → Going t rows set counts
-  going_first n set counts sized all e =
-      let everybody : set ≡ first_of (size t) = all ∙ ap first_of sized in
-      record {
-        below = subst (λ (x : ℕ). x < 2 ^ size t) (sym everybody) (first_of-lt (size t) room);
-        above = subst (Above t rows) (sym (everybody ∙ first_of-all (size t) room)) (above_all t rows);
-        exact = e ∙ ap (counted t rows) (sym everybody);
-      }
-
-  module _ (set : ℕ) (counts : List ℕ) (going : Going t rows set counts) where
-    pub going_below : set < 2 ^ length counts
-    going_below = subst (λ (n : ℕ). set < 2 ^ n) (sym (counted_long t rows set counts going.exact)) going.below
-
-    count_of : (k : ℕ) → k < size t → get_or counts k 0 ≡ votes t rows set k
-    unfolding counted
-    count_of k h = ap (λ (l : List ℕ). get_or l k 0) going.exact ∙ get_or-tab (size t) (votes t rows set) k 0 h
-
-    -- nobody is short: the set is closed
-    pub going_done : (need : ℕ) → t + 1 ≤ need → NobodyShort need set counts → set ≡ survivors t rows
-    going_done need most nobody = struck_survivors t rows set going.below going.above (record { accepted = votes_enough })
-      where
-        votes_enough : (k : ℕ) → k < size t → has set k ≡ true → suc t ≤ votes t rows set k
-        votes_enough k l y = omega (arith, most, count_of k l, nobody.enough k y)
-
-    module _ (need i : ℕ) (first : Short need set counts i) where
-      pub short_inside : i < size t
-      short_inside = has_inside (size t) set i going.below first.member
-
-      votes_few : votes t rows set i < need
-      votes_few = omega (arith, count_of i short_inside, first.short)
-
-      module _ (left : ℕ) (after : List ℕ) (strike : AfterStrike t rows set i left after) where
-        keeps : need ≤ t + 1 → (k : ℕ) → k < size t → has set k ≡ true → suc t ≤ votes t rows set k → has left k ≡ true
-        keeps most k l y v =
-            ap (λ (x : ℕ). has x k) strike.without ∙ has-striking set i k (lt_of_lt_of_le l room)
-            ∙ and_intro y (ap not (ne_eqb k i (λ e. not-le_of_lt (lt_of_lt_of_le votes_few most) (rw add-one (subst (λ (x : ℕ). suc t ≤ votes t rows set x) e v)))))
-
-        narrow : set < 2 ^ 32
-        narrow = lt_of_lt_of_le going.below (pow_mono room)
-
-        pub going_less : left < set
-        going_less = subst (λ (x : ℕ). x < set) (sym strike.without) (striking_less set i narrow (lt_of_lt_of_le short_inside room) first.member)
-
-        pub going_on : need ≤ t + 1 → Going t rows left after
-        going_on most =
-            record {
-              below = lt_trans going_less going.below;
-              above = above_strike t rows set left going.above (keeps most);
-              exact = strike.exact;
-            }
+    ∙ votes_apart t rows set i table.few (has_inside (size t) set i below member) member k

@@ -1,7 +1,7 @@
 // Vote rows to survivors. Row i is the set of those who accept member i.
 #![tactic(auto)]
 
-ghost use Rattle.std.specs.Prelude.{◌≡◌, true, cond, ◌-◌, ◌≤◌, ◌<◌, ◌^◌, length};
+ghost use Rattle.std.specs.Prelude.{◌≡◌, true, cond, ◌+◌, ◌-◌, ◌≤◌, ◌<◌, ◌^◌, length};
 ghost use Rattle.lists.specs.Tabulate.{each};
 ghost use Rattle.members.specs.Members.{size, has, is_set, first_of};
 ghost use Rattle.pruning.specs.Pruning.{survivors, prune};
@@ -26,21 +26,6 @@ fn votes_left(row: u32, i: usize, votes: u32) -> u32
     votes - u32::from(members::has(row, i))
 }
 
-// The first member of the set that is short of the votes needed; None: nobody is. A mask is no slice to iterate: its lowest member is looked at, and left out.
-fn next_short(need: usize, set: u32, counts: &[u32]) -> Option<usize>
-    requires { set < 2 ^ length counts.now }
-    ensures { FirstShort need set counts.now result }
-{
-    let mut rest = set;
-    while let Some(i) = members::lowest(rest) {
-        rest = members::without(rest, i);
-        if (counts[i] as usize) < need {
-            return Some(i);
-        }
-    }
-    None
-}
-
 // A station's votes.
 #[derive(Clone, Copy)]
 struct Votes<'a> {
@@ -49,63 +34,81 @@ struct Votes<'a> {
     ghost table: { Table t rows.now },
 }
 
+// Those not struck yet, and the votes that each member has from them.
+#[derive(Drop)]
+struct Remaining<'a, 'c> {
+    votes: Votes<'a>,
+    set: u32,
+    counts: &'c mut [u32],
+    ghost below: { set < 2 ^ size votes.t },
+    ghost exact: { counts.now ≡ counted votes.t votes.rows.now set },
+}
+
 impl<'a> Votes<'a> {
-    // Each member's votes from everybody.
-    #[tactic(auto, using(lists::proofs::Loops::writes, crate::proofs::Steps::votes_counted), unfolding(crate::specs::Counts::counted))]
-    fn count(&self, counts: &mut [u32])
+    // Everybody, with the votes that each member has from everybody.
+    #[tactic(auto, using(lists::proofs::Loops::writes, crate::proofs::Steps::votes_counted, crate::proofs::Striking::everybody_below), unfolding(crate::specs::Counts::counted))]
+    fn count<'c>(&self, counts: &'c mut [u32]) -> Remaining<'a, 'c>
         requires { length counts.old ≡ size self.now.t }
-        ensures { counts.new ≡ counted self.now.t self.now.rows.now (first_of (size self.now.t)) }
+        ensures { (result.votes ≡ self.now) × (result.set ≡ first_of (size self.now.t)) }
     {
         let everybody = members::first(members::size(self.t));
         for (i, count) in counts.iter_mut().enumerate() {
             *count = members::common(self.rows[i], everybody);
         }
-    }
-
-    // Strikes member i, and takes its vote off the count of each whom it accepted. Gives those left.
-    #[tactic(auto, using(lists::proofs::Loops::rewrites, crate::proofs::Steps::vote_there, crate::proofs::Steps::counted_long), unfolding(crate::specs::Counts::counted))]
-    fn strike(&self, set: u32, i: usize, counts: &mut [u32]) -> u32
-        requires i_bound { (i < size self.now.t) × (has set i ≡ true) }
-        requires counts_value { counts.old ≡ counted self.now.t self.now.rows.now set }
-        ensures { AfterStrike self.now.t self.now.rows.now set i result counts.new }
-    {
-        for (k, count) in counts.iter_mut().enumerate() {
-            *count = votes_left(self.rows[k], i, *count);
+        Remaining {
+            votes: *self,
+            set: everybody,
+            counts,
         }
-        members::without(set, i)
     }
 
-    // Strikes short members one after the other, from everybody on, until nobody is short.
-    fn strike_short(&self, counts: &mut [u32]) -> u32
-        requires { counts.old ≡ counted self.now.t self.now.rows.now (first_of (size self.now.t)) }
-        ensures { (result ≡ survivors self.now.t self.now.rows.now)
-            × (counts.new ≡ counted self.now.t self.now.rows.now result) }
-    {
-        let need = self.t + 1;
-        let mut set = members::first(members::size(self.t));
-        while let Some(i) = next_short(need, set, counts) {
-            set = self.strike(set, i, counts);
-        }
-        set
-    }
-
-    // Counts, then strikes: what pruning does once its checks are passed.
-    fn count_and_strike(&self, counts: &mut [u32]) -> u32
-        requires { length counts.old ≡ size self.now.t }
-        ensures { (result ≡ survivors self.now.t self.now.rows.now)
-            × (counts.new ≡ counted self.now.t self.now.rows.now result) }
-    {
-        self.count(counts);
-        self.strike_short(counts)
-    }
-
-    // The survivors. Makes the room for n counts.
-    #[tactic(auto, unfolding(members::specs::Members::size))]
+    // The survivors: short members are struck one after the other, from everybody on, until nobody is short.
+    #[tactic(auto, using(crate::proofs::Striking::going_first, crate::proofs::Striking::going_less, crate::proofs::Striking::going_on, crate::proofs::Striking::going_done), unfolding(members::specs::Members::size))]
     fn survivors(&self) -> u32
         ensures { result ≡ survivors self.now.t self.now.rows.now }
     {
         let mut counts = [0u32; 31];
-        self.count_and_strike(&mut counts[..members::size(self.t)])
+        let mut left = self.count(&mut counts[..members::size(self.t)]);
+        while let Some(i) = left.next_short() {
+            left = left.strike(i);
+        }
+        left.set
+    }
+}
+
+impl<'a, 'c> Remaining<'a, 'c> {
+    // The first who is short of t + 1 votes; None: nobody is. A mask is no slice to iterate: its lowest member is looked at, and left out.
+    #[tactic(auto, using(crate::proofs::Striking::looking_inside, crate::proofs::Striking::looking_next, crate::proofs::Striking::looking_none))]
+    fn next_short(&self) -> Option<usize>
+        ensures { FirstShort (self.now.votes.t + 1) self.now.set self.now.counts.now result }
+    {
+        let need = self.votes.t + 1;
+        let mut rest = self.set;
+        while let Some(i) = members::lowest(rest) {
+            rest = members::without(rest, i);
+            if (self.counts[i] as usize) < need {
+                return Some(i);
+            }
+        }
+        None
+    }
+
+    // Those left once member i is struck: its vote is taken off the count of each whom it accepted.
+    #[tactic(auto, using(lists::proofs::Loops::rewrites, crate::proofs::Steps::vote_there, crate::proofs::Steps::counted_long, crate::proofs::Striking::struck_below), unfolding(crate::specs::Counts::counted))]
+    fn strike(self, i: usize) -> Remaining<'a, 'c>
+        requires { has self.set i ≡ true }
+        ensures same_votes { result.votes ≡ self.entry.votes }
+        ensures struck { AfterStrike self.entry.votes.t self.entry.votes.rows.now self.entry.set i result.set result.counts.now }
+    {
+        let Remaining { votes, set, counts } = self;
+        for (k, count) in counts.iter_mut().enumerate() {
+            *count = votes_left(votes.rows[k], i, *count);
+        }
+        Remaining {
+            votes,
+            set: members::without(set, i),
+            counts,
+        }
     }
 }
 
