@@ -1,10 +1,9 @@
 -- A law for each step of the loops in the code.
 -- Assumes nothing.
-use mathlib.Core.Path.{◌≡◌, refl, ap, ap₂, ◌∙◌}
-use mathlib.Core.Bool.{true, ◌&&◌}
+use mathlib.Core.Path.{◌≡◌, refl, ap, ◌∙◌}
+use mathlib.Core.Bool.{Bool, true, ◌&&◌}
 use mathlib.Core.List.{List, [], ◌∷◌}
 use Prim.Native.Nat.{ℕ, ◌+◌, ◌≤◌, ◌<◌, ◌^◌}
-use lib.Dec.{leb}
 use lib.ListN.{length, get_or, drop}
 use Rattle.std.specs.List.{list_all}
 use Rattle.lists.specs.Tabulate.{tab, each}
@@ -13,7 +12,7 @@ use Rattle.lists.proofs.Loops.{read_kept}
 use Rattle.lists.proofs.Tabulate.{length-tab, get_or-tab}
 use Rattle.members.specs.Members.{size, has, is_set, striking, first_of, common}
 use Rattle.members.proofs.Masks.{has_inside}
-use Rattle.members.proofs.Words.{size_32, first_of-lt, first_of-is_set, common-count}
+use Rattle.members.proofs.Words.{size_32, first_of-lt, common-count}
 use Rattle.pruning.specs.Pruning.{votes}
 use Rattle.pruning.specs.Counts.{Table, counted}
 use Rattle.pruning.proofs.Counts.{votes_apart}
