@@ -1,20 +1,18 @@
 -- Opening's checks before the votes in their order, as the code makes them. Only here the code's shape is known to be that of t and d.
 -- Assumes nothing.
-use mathlib.Core.Path.{◌≡◌, refl, sym, ap, ◌∙◌}
-use mathlib.Core.Bool.{true, false}
+use mathlib.Core.Path.{◌≡◌, sym, ap, ◌∙◌}
+use mathlib.Core.Bool.{Bool, true, false}
 use mathlib.Core.List.{List}
-use Prim.Native.Nat.{ℕ, ◌*◌, ◌^◌}
-use lib.ListN.{length, drop}
-use borrow.Author.Tests.{eqb-true, ltb-true}
-use Rattle.members.specs.Members.{size, own_points}
-use Rattle.shares.specs.Layout.{width, share_word}
+use Prim.Native.Nat.{ℕ}
+use lib.ListN.{drop}
+use Rattle.members.specs.Members.{own_points}
+use Rattle.shares.specs.Layout.{share_word}
 use Rattle.voting.specs.Votes.{usable, vote_rows, pairs}
 use Rattle.shares.specs.Internal.FirstChecks.{SharesPassed, SharesRefused}
 use Rattle.shares.specs.declared.Shares.{Shares}
 use Rattle.shares.proofs.FirstChecks.{shares_refused}
 use Rattle.reconstruction.specs.Reconstruction.{Answered, turned_away, is_quorum, finish, checks, reconstruct}
 use Rattle.reconstruction.specs.Internal.Steps.{Accepted}
-use Rattle.reconstruction.proofs.Opening.{reconstruct_finishes}
 
 module _ (t d day present quorum : ℕ) (words : List ℕ) where
   abbrev answered : Answered
@@ -36,20 +34,20 @@ module _ (t d day present quorum : ℕ) (words : List ℕ) where
     p : SharesPassed t d day present words
     p = passed.3
 
+    quorum_tested : {b : Bool} → is_quorum s.shape.t quorum ≡ b → is_quorum t quorum ≡ b
+    quorum_tested h = sym (ap (λ (m : ℕ). is_quorum m quorum) passed.0) ∙ h
+
     pub refused_13 : is_quorum s.shape.t quorum ≡ false → answered ≡ turned_away d 13
     unfolding reconstruct
-    refused_13 h =
-        rw (p.passed.threshold, p.passed.in_length, p.passed.is_a_day, p.in_full, p.proper, sym (ap (λ (m : ℕ). is_quorum m quorum) passed.0) ∙ h)
+    refused_13 h = rw (p.passed.threshold, p.passed.in_length, p.passed.is_a_day, p.in_full, p.proper, quorum_tested h)
 
     pub goes_on : is_quorum s.shape.t quorum ≡ true → Accepted t d day present quorum words s
+    unfolding reconstruct
     goes_on h =
         record {
           of_d = passed.1;
           opens =
-              reconstruct_finishes t d day present quorum words p.passed.threshold p.passed.in_length p.passed.is_a_day
-              (eqb-true (length words) (size t * width t d) p.in_full) (ltb-true present (2 ^ size t) p.proper)
-              (sym (ap (λ (m : ℕ). is_quorum m quorum) passed.0) ∙ h)
-              ∙ rw (passed.0, passed.1, passed.2) refl;
+              rw (passed.0, passed.1, passed.2, p.passed.threshold, p.passed.in_length, p.passed.is_a_day, p.in_full, p.proper, quorum_tested h);
         }
 
 -- for the checks as the code makes them
