@@ -1,20 +1,16 @@
 -- The writer's checks in their order, as the code makes them; and the text, where it fits.
 -- Assumes nothing.
 use mathlib.Core.Path.{◌≡◌, sym, ap, ap₂, ◌∙◌}
-use mathlib.Core.Bool.{true, false}
 use mathlib.Core.List.{List, ◌++◌}
-use Prim.Native.Nat.{ℕ, ◌+◌, ◌*◌, ◌≤◌, ◌<◌}
+use Prim.Native.Nat.{ℕ, ◌+◌, ◌≤◌, ◌<◌}
 use native.Mathlib.Omega.{arith}
 use borrow.Author.Tests.{le-leb, lt-leb}
-use lib.Dec.{eqb}
 use lib.ListN.{length, drop, length-append}
 use Rattle.std.specs.Prelude.{Ok, Err}
-use Rattle.members.specs.Members.{size, is_set}
-use Rattle.shares.specs.Layout.{width}
-use Rattle.shares.specs.Internal.FirstChecks.{Passed, Refused}
+use Rattle.shares.specs.Internal.FirstChecks.{SharesPassed, SharesRefused}
 use Rattle.shares.specs.declared.Shape.{Shape}
-use Rattle.shares.proofs.FirstChecks.{refused_first}
-use Rattle.shares.proofs.Tests.{wrong_length, right_length, set_tested}
+use Rattle.shares.specs.declared.Shares.{Shares}
+use Rattle.shares.proofs.FirstChecks.{shares_refused}
 use Rattle.text.specs.Internal.Writing.{Written}
 use Rattle.text.proofs.Writing.{written_then, written_as, written_front, written_count}
 use Rattle.handin.specs.Writer.{HandInText, first_line, share_lines, text_of, unwritten, written, checks, write}
@@ -22,7 +18,7 @@ use Rattle.handin.specs.Internal.Fitted.{fitted}
 use Rattle.handin.specs.Answer.{written_of}
 use Rattle.refusals.specs.Refusals.{number}
 use Rattle.refusals.specs.declared.Refusal.{Refusal}
-use Rattle.refusals.specs.declared.Refusal.TheVariants.{BadInputLength, MemberBeyondN, TextBufferTooShort}
+use Rattle.refusals.specs.declared.Refusal.TheVariants.{TextBufferTooShort}
 
 -- ---- the last check, and the text
 
@@ -70,34 +66,20 @@ module _ (s : Shape) (quorum day present : ℕ) (words : List ℕ) where
 -- ---- the checks before it
 
 module _ (t d quorum day present : ℕ) (words buffer : List ℕ) where
-  -- one of the first checks fails
-  pub wrote_first : (k : Refusal) → Refused t d day (number k) → written_of (Err k) buffer ≡ write t d quorum day present words buffer
+  -- one of the checks of shares fails
+  pub wrote_refused : (k : Refusal) → SharesRefused t d day present words (number k) → written_of (Err k) buffer ≡ write t d quorum day present words buffer
   unfolding written_of write unwritten
-  wrote_first k r =
+  wrote_refused k r =
       let text : List ℕ = text_of t d quorum day present words in
-      sym (refused_first (unwritten buffer) (drop 3 (checks t d day present words text buffer)) (written text buffer) r)
+      sym (shares_refused (unwritten buffer) (drop 5 (checks t d day present words text buffer)) (written text buffer) r)
 
   -- they all pass
-  module _ (s : Shape) (passed : (s.t ≡ t) × (s.d ≡ d) × Passed t d day) where
-    p : Passed t d day
-    p = passed.2
-
-    pub wrote_11 : (length words ≡ s.n * s.width → ⊥) → written_of (Err BadInputLength) buffer ≡ write t d quorum day present words buffer
-    unfolding written_of write unwritten
-    wrote_11 h = rw (p.threshold, p.in_length, p.is_a_day, wrong_length s passed words h)
-
-    module _ (long : length words ≡ s.n * s.width) where
-      right : eqb (length words) (size t * width t d) ≡ true
-      right = right_length s passed words long
-
-      pub wrote_12 : is_set s.n present ≡ false → written_of (Err MemberBeyondN) buffer ≡ write t d quorum day present words buffer
-      unfolding written_of write unwritten
-      wrote_12 h = rw (p.threshold, p.in_length, p.is_a_day, right, set_tested s passed present h)
-
-      pub goes_on : is_set s.n present ≡ true → (answer : HandInText) → answer ≡ fitted (text_of s.t s.d quorum day present words) buffer
-          → answer ≡ write t d quorum day present words buffer
-      unfolding write fitted
-      goes_on h answer e = e ∙ rw (passed.0, passed.1, p.threshold, p.in_length, p.is_a_day, right, set_tested s passed present h)
+  pub goes_on : (s : Shares) → (s.shape.t ≡ t) × (s.shape.d ≡ d) × (s.words.now ≡ words) × SharesPassed t d day present words
+      → (answer : HandInText) → answer ≡ fitted (text_of s.shape.t s.shape.d quorum day present s.words.now) buffer
+      → answer ≡ write t d quorum day present words buffer
+  unfolding write fitted
+  goes_on s (t_is, d_is, words_are, p) answer e =
+      e ∙ rw (t_is, d_is, words_are, p.passed.threshold, p.passed.in_length, p.passed.is_a_day, p.in_full, p.proper)
 
 -- for the checks as the code makes them
-pub ruleset by_check = (wrote_first, wrote_11, wrote_12, goes_on)
+pub ruleset by_check = (wrote_refused, goes_on)

@@ -250,18 +250,9 @@ pub fn write(
 ) -> Result<usize, Refusal>
     ensures { written_of result text.new ≡ write t d quorum day present shares.now text.old }
 {
-    let shape = Shape::check(t, d, day)?;
-    if shares.len() != shape.n * shape.width {
-        return Err(Refusal::BadInputLength);
-    }
-    if !members::is_set(shape.n, present) {
-        return Err(Refusal::MemberBeyondN);
-    }
+    let shares = Shares::check(t, d, day, present, shares)?;
     let source = Source {
-        shares: Shares {
-            shape,
-            words: shares,
-        },
+        shares,
         quorum,
         day,
         present,

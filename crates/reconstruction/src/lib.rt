@@ -321,29 +321,23 @@ fn open_shares(
     }
 }
 
-// The checks before the votes, in their order: the shape of the shares, or the first refusal.
+// The checks before the votes, in their order: the shares, or the first refusal.
 #[tactic(auto, using(crate::proofs::Order::by_check))]
-fn check(
+fn check<'a>(
     t: usize,
     day: u16,
     present: u32,
     quorum: u16,
-    shares: &[u16],
+    shares: &'a [u16],
     d: usize,
-) -> Result<Shape, Refusal>
+) -> Result<Shares<'a>, Refusal>
     ensures { MatchResult result (λ s. Accepted t d day present quorum shares.now s) (λ refusal. reconstruct_of t d day present quorum shares.now ≡ turned_away d (number refusal)) }
 {
-    let shape = Shape::check(t, d, day)?;
-    if shares.len() != shape.n * shape.width {
-        return Err(Refusal::BadInputLength);
-    }
-    if !members::is_set(shape.n, present) {
-        return Err(Refusal::MemberBeyondN);
-    }
-    if !is_quorum(shape, quorum) {
+    let shares = Shares::check(t, d, day, present, shares)?;
+    if !is_quorum(shares.shape, quorum) {
         return Err(Refusal::BadQuorum);
     }
-    Ok(shape)
+    Ok(shares)
 }
 
 // A refusal before the votes: nothing is counted.
@@ -368,13 +362,7 @@ pub fn reconstruct(
     ensures { answered_of result secret.new ≡ reconstruct_of t (length secret.old) day present quorum shares.now }
 {
     match check(t, day, present, quorum, shares, secret.len()) {
-        Ok(shape) => {
-            let shares = Shares {
-                shape,
-                words: shares,
-            };
-            open_shares(&shares, day, present, quorum, secret)
-        }
+        Ok(shares) => open_shares(&shares, day, present, quorum, secret),
         Err(refusal) => turn_away(secret, refusal),
     }
 }

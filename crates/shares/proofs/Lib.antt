@@ -5,6 +5,7 @@ pub mod FirstChecks
 pub mod Places
 pub mod Reading
 pub mod Same
+pub mod SharesChecks
 pub mod Shapes
 pub mod Tests
 pub mod View

@@ -6,7 +6,7 @@ ghost use Rattle.lists.specs.Tabulate.{tab};
 ghost use Rattle.refusals.specs.Refusals.{number};
 ghost use Rattle.members.specs.Members.{size};
 ghost use Rattle.shares.specs.Layout.{is_day, width as width_of};
-ghost use Rattle.shares.specs.Internal.FirstChecks.{Passed, Refused};
+ghost use Rattle.shares.specs.Internal.FirstChecks.{Passed, Refused, SharesPassed, SharesRefused};
 
 use refusals::Refusal;
 
@@ -89,6 +89,28 @@ pub struct Shares<'a> {
 // it.
 impl<'a> Shares<'a> {
     ghost use Rattle.shares.specs.Layout.{share, share_word, share_words, tag_word_at, key_α, key_β};
+
+    // The shares for t and d on a day, in these words, after the checks that opening and the writer begin with, in their order: 1, 2, 32, 11 and 12.
+    #[tactic(auto, using(crate::proofs::SharesChecks::by_check))]
+    pub fn check(
+        t: usize,
+        d: usize,
+        day: u16,
+        present: u32,
+        words: &'a [u16],
+    ) -> Result<Self, Refusal>
+        ensures { MatchResult result (λ s. (s.shape.t ≡ t) × (s.shape.d ≡ d) × (s.words.now ≡ words.now) × SharesPassed t d day present words.now)
+            (λ refusal. SharesRefused t d day present words.now (number refusal)) }
+    {
+        let shape = Shape::check(t, d, day)?;
+        if words.len() != shape.n * shape.width {
+            return Err(Refusal::BadInputLength);
+        }
+        if !members::is_set(shape.n, present) {
+            return Err(Refusal::MemberBeyondN);
+        }
+        Ok(Shares { shape, words })
+    }
 
     // Member i's share.
     pub fn share(&self, i: usize) -> &'a [u16]

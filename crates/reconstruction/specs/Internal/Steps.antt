@@ -1,6 +1,6 @@
 -- What votes have to be for the second half of opening, what the survivors have to be before their words are opened, and what each comes to.
 -- Assumes nothing.
-use Rattle.std.specs.Prelude.{ℕ, suc, ◌*◌, ◌≤◌, ◌<◌, ◌^◌, ◌≡◌, true, cond, List, [], ◌∷◌, eqb, length, get_or, Option, MatchOption}
+use Rattle.std.specs.Prelude.{ℕ, suc, ◌≤◌, ◌<◌, ◌^◌, ◌≡◌, true, cond, List, [], ◌∷◌, eqb, length, get_or, Option, MatchOption}
 use Rattle.std.proofs.Math.Option.{none, some}
 use Rattle.lists.specs.Tabulate.{each}
 use Rattle.field.specs.Field.{prime}
@@ -8,6 +8,7 @@ use Rattle.polynomial.specs.Polynomial.{value}
 use Rattle.members.specs.Members.{size, own_points, has, set_of, is_set, card, first_of}
 use Rattle.shares.specs.Layout.{share_word}
 use Rattle.shares.specs.declared.Shape.{Shape}
+use Rattle.shares.specs.declared.Shares.{Shares}
 use Rattle.parity.specs.Internal.Looking.{looked}
 use Rattle.voting.specs.Votes.{usable, vote_rows, pairs}
 use Rattle.decoding.specs.Decoding.{find}
@@ -70,8 +71,7 @@ by_shares s day present quorum words =
     let able : ℕ = usable s.t s.d present words in
     record { opened = by_votes s quorum able (vote_rows s.t s.d day able words) words; pairs = pairs s.t s.d day able words }
 
--- an input that passes all checks before the votes: the shape is that of t and d, and the shares are as long as it says
-pub record Accepted (t d day present quorum : ℕ) (words : List ℕ) (s : Shape) : Type 0 where
-  pub of_d : s.d ≡ d
-  pub long : length words ≡ s.n * s.width
-  pub opens : reconstruct t d day present quorum words ≡ by_shares s day present quorum words
+-- an input that passes all checks before the votes, as shares: they are for d, and what they come to is the answer
+pub record Accepted (t d day present quorum : ℕ) (words : List ℕ) (s : Shares) : Type 0 where
+  pub of_d : s.shape.d ≡ d
+  pub opens : reconstruct t d day present quorum words ≡ by_shares s.shape day present quorum s.words.now
