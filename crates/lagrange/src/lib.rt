@@ -10,8 +10,7 @@ ghost use Rattle.lagrange.specs.Internal.Lagrange.{over, Apart, inverted, weight
 ghost use Rattle.lagrange.specs.Internal.Matrix.{Chosen, Rows, products};
 
 // The points of some of n members, and the rows that read off the polynomial through any values at them: the row for x its value at x, which is 0 or any
-// member's point. Both are lent: there are t + 1 points, which is known at run time only, and `prepare` would have to move 1 KB of rows of its own to its
-// caller.
+// member's point. Both are lent: no memory is allocated, and the room for t + 1 points and for the rows is kept where matrices are made one after the other.
 #[derive(Drop)]
 pub struct Matrix<'a> {
     pub n: usize,
@@ -95,8 +94,8 @@ fn entry(all: u16, weight: u16, x: u16, point: u16) -> u16
 }
 
 // The points of the first members of a set, as many as there is room for. That the set is of n members and has so many is about one argument beside another,
-// and is only handed on to here: a type of sets with so many members would be made for these calls alone. A mask is no slice
-// to iterate: its lowest member is taken, and left out.
+// and is only handed on to here: a type of sets with so many members would be made for these calls alone. A mask is no slice to iterate: its lowest member is
+// taken, and left out.
 fn choose(n: usize, set: u32, points: &mut [u16])
     requires { (n ≤ 31) × (set < 2 ^ n) × (length points.old ≤ card n set) }
     ensures { Chosen n points.new }

@@ -50,7 +50,7 @@ enum Failure {
     Writing(io::Error),
 }
 
-// By hand: the derive that would write it is of another package, which nothing else here needs.
+// By hand: the derive that would write it is of the package thiserror, which would be needed for this alone.
 impl fmt::Display for Failure {
     fn fmt<W: fmt::Write>(&self, f: &mut fmt::Formatter<W>) -> fmt::Result {
         match self {

@@ -12,7 +12,7 @@ use reconstruction::{Opened, Unopened};
 use shares::Shape;
 use text::Output;
 
-// A secret that was opened: who survived and who agrees, and the station's shape, by which the secret has d words.
+// The answer where a secret was opened: who survived and who agrees, and the station's shape, by which the secret has d words.
 #[derive(Clone, Copy)]
 struct Answer {
     opened: Opened,

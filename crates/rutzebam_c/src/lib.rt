@@ -1,5 +1,5 @@
 // The calls for programs in C and Rust, declared in include/rutzebam.h: those of the crate rutzebam, with the same clauses. Each stands here again, since only
-// a static library's own functions can be exported, and no crate can depend on a static library: a program in Rattle calls `rutzebam`.
+// a static library's own functions can be exported, and no crate can depend on a static library: a program in Rattle would call `rutzebam`.
 #![tactic(auto)]
 
 ghost use Rattle.std.specs.Prelude.{◌≡◌, length};
