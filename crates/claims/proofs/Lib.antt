@@ -6,6 +6,7 @@ pub mod Examples
 pub mod HandIn
 pub mod Honest
 pub mod Instances
+pub mod Named
 pub mod Opening
 pub mod Pairs
 pub mod QuickLook

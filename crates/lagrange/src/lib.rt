@@ -10,7 +10,8 @@ ghost use Rattle.lagrange.specs.Internal.Lagrange.{over, Apart, inverted, weight
 ghost use Rattle.lagrange.specs.Internal.Matrix.{Chosen, Rows, products};
 
 // The points of some of n members, and the rows that read off the polynomial through any values at them: the row for x its value at x, which is 0 or any
-// member's point. Both are lent: no memory is allocated, and the room for t + 1 points and for the rows is kept where matrices are made one after the other.
+// member's point. Both are lent: a matrix that owned them would carry a count beside an array of points, and to renew it in place would break its own
+// facts on the way.
 #[derive(Drop)]
 pub struct Matrix<'a> {
     pub n: usize,
