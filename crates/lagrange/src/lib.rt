@@ -10,8 +10,8 @@ ghost use Rattle.lagrange.specs.Internal.Lagrange.{over, Apart, inverted, weight
 ghost use Rattle.lagrange.specs.Internal.Matrix.{Chosen, Rows, products};
 
 // The points of some of n members, and the rows that read off the polynomial through any values at them: the row for x its value at x, which is 0 or any
-// member's point. Both are lent: a matrix that owned them would carry a count beside an array of points, and to renew it in place would break its own
-// facts on the way.
+// member's point. Both are lent: with points of its own a matrix would carry a count beside an array, since there may be fewer than 16; and with rows of its own
+// it would be a value of 1 KB, handed back at each renewal.
 #[derive(Drop)]
 pub struct Matrix<'a> {
     pub n: usize,

@@ -196,7 +196,7 @@ fn fill_zero_weights(shape: Shape, row: &mut [u16])
 }
 
 // The look, with room for a row and for the sums, both lent. Rows are slices of n words, here and above: n is known at run time only. A struct of shares, row
-// and sums would spare six private functions a parameter or two, and be a type for one call.
+// and sums would spare most of these functions a parameter or two, and be a type for one call.
 fn look_by_rows(shares: &Shares, row: &mut [u16], sums: &mut Halves, secret: &mut [u16]) -> usize
     requires { (length row.old ≡ shares.now.shape.n) × (length secret.old ≡ shares.now.shape.d) }
     ensures value { result ≡ looked shares.now.shape.t shares.now.shape.d (words shares.now) }
