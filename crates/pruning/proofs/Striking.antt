@@ -23,7 +23,7 @@ use Rattle.pruning.specs.Internal.Steps.{Short, NobodyShort}
 use Rattle.pruning.specs.declared.Votes.{Votes}
 use Rattle.pruning.specs.declared.Remaining.{Remaining}
 use Rattle.pruning.proofs.Largest.{Above, above_strike, above_all, struck_survivors}
-use Rattle.pruning.proofs.Steps.{counted_long}
+use Rattle.pruning.proofs.Steps.{vote_there, counted_long}
 
 -- those left that are looked at already have enough votes
 pub record Looking (left : Remaining) (rest : ℕ) : Type 0 where
@@ -142,3 +142,10 @@ module _ (left : Remaining) where
           same_votes = same ∙ going.same_votes;
           above = subst (λ (v : Votes). Above v.t v.rows.now next.set) (sym same) (above_strike t rows left.set next.set going.above keeps);
         }
+
+-- for the loops as the code makes them: the search for a short member, one strike, and the strikes one after the other
+pub ruleset looking = (looking_inside, looking_next, looking_none)
+
+pub ruleset one_struck = (vote_there, counted_long, struck_below)
+
+pub ruleset going = (going_first, going_less, going_on, going_done)

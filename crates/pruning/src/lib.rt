@@ -63,7 +63,7 @@ impl<'a> Votes<'a> {
     }
 
     // The survivors: short members are struck one after the other, from everybody on, until nobody is short.
-    #[tactic(auto, using(crate::proofs::Striking::going_first, crate::proofs::Striking::going_less, crate::proofs::Striking::going_on, crate::proofs::Striking::going_done), unfolding(members::specs::Members::size))]
+    #[tactic(auto, using(crate::proofs::Striking::going), unfolding(members::specs::Members::size))]
     fn survivors(&self) -> u32
         ensures { result ≡ survivors self.now.t self.now.rows.now }
     {
@@ -78,7 +78,7 @@ impl<'a> Votes<'a> {
 
 impl<'a, 'c> Remaining<'a, 'c> {
     // The first who is short of t + 1 votes; None: nobody is. A mask is no slice to iterate: its lowest member is looked at, and left out.
-    #[tactic(auto, using(crate::proofs::Striking::looking_inside, crate::proofs::Striking::looking_next, crate::proofs::Striking::looking_none))]
+    #[tactic(auto, using(crate::proofs::Striking::looking))]
     fn next_short(&self) -> Option<usize>
         ensures { FirstShort (self.now.votes.t + 1) self.now.set self.now.counts.now result }
     {
@@ -94,7 +94,7 @@ impl<'a, 'c> Remaining<'a, 'c> {
     }
 
     // Those left once member i is struck: its vote is taken off the count of each whom it accepted.
-    #[tactic(auto, using(lists::proofs::Loops::rewrites, crate::proofs::Steps::vote_there, crate::proofs::Steps::counted_long, crate::proofs::Striking::struck_below), unfolding(crate::specs::Counts::counted))]
+    #[tactic(auto, using(lists::proofs::Loops::rewrites, crate::proofs::Striking::one_struck), unfolding(crate::specs::Counts::counted))]
     fn strike(self, i: usize) -> Remaining<'a, 'c>
         requires { has self.set i ≡ true }
         ensures same_votes { result.votes ≡ self.entry.votes }
