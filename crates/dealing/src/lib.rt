@@ -113,7 +113,7 @@ impl Supply<'_> {
         let mut made = [0u16; 32];
         shares::gather_keys(self.shape.n, |k| self.key(k, i), &mut alphas, &mut betas);
         mac::tags_with_first(&alphas, &betas, self.day, words, &mut made);
-        tags.copy_from_slice(&made[..self.shape.n]);
+        lists::copy(&made[..self.shape.n], tags);
     }
 
     // Member i's tags of the day and its share words, by whichever way is quicker.
@@ -136,7 +136,7 @@ impl Supply<'_> {
         ensures { keys.new ≡ keys_of self.now.shape.t self.now.shape.d self.now.random.now i }
     {
         let from = self.key_place(i, 0);
-        keys.copy_from_slice(&self.random[from..from + 2 * self.shape.n]);
+        lists::copy(&self.random[from..from + 2 * self.shape.n], keys);
     }
 
     // Member i's share. The member's point is points[i].

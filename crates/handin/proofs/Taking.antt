@@ -26,7 +26,7 @@ put_mid-sets at k xs ys e h =
     ∙ sym (sets-eq ys xs at (omega arith))
 
 -- a member that is one of 1 to n, counted from 0
-member_inside : (n m : ℕ) → within 1 n m ≡ true → m - 1 < n
+pub member_inside : (n m : ℕ) → within 1 n m ≡ true → m - 1 < n
 member_inside n m one = omega (arith, within_low 1 n m one, within_high 1 n m one)
 
 module _ (s : Shape) where

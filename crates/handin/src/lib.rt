@@ -38,7 +38,7 @@ fn take_share(
         return Err(Refusal::BadLineMember);
     }
     let at = i * s.width;
-    words[at..at + s.width].copy_from_slice(&numbers[1..]);
+    lists::copy(&numbers[1..], &mut words[at..at + s.width]);
     Ok(members::with(present, i))
 }
 

@@ -74,3 +74,14 @@ module _ {A : Type 0} where
       ap (λ (l : List A). replicate w a ++ l) (concat-replicate n w a)
       ∙ replicate-append-replicate w (n * w) a
       ∙ ap (λ (k : ℕ). replicate k a) sum
+
+-- a loop that tests the elements of a list block by block, and stops at the first block that fails: what is left decides
+module _ {A : Type 0} (p : A → Bool) (xs rest front after : List A) (r : Bool) (left : each p xs ≡ each p rest) (cut : rest ≡ front ++ after) (tested : r ≡ each p front) where
+  apart : each p xs ≡ r && each p after
+  apart = left ∙ ap (each p) cut ∙ each_append p front after ∙ ap (λ (b : Bool). b && each p after) (sym tested)
+
+  pub block_failed : r ≡ false → false ≡ each p xs
+  block_failed e = sym (apart ∙ ap (λ (b : Bool). b && each p after) e)
+
+  pub block_passed : r ≡ true → each p xs ≡ each p after
+  block_passed e = apart ∙ ap (λ (b : Bool). b && each p after) e

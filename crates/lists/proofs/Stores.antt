@@ -1,12 +1,12 @@
 -- Words stored one after the other from a place on (`sets` of lib.Seq).
 -- Assumes nothing.
-use mathlib.Core.Path.{◌≡◌, sym, ap, ◌∙◌}
+use mathlib.Core.Path.{◌≡◌, refl, sym, ap, ◌∙◌}
 use mathlib.Core.List.{List, [], ◌∷◌, ◌++◌, append_assoc}
 use Prim.Native.Nat.{ℕ, suc, ◌+◌, ◌-◌, ◌≤◌}
 use native.Mathlib.Nat.{add-zero}
 use native.Mathlib.Omega.{arith}
 use lib.ListN.{length, take, drop, set, length-drop}
-use lib.Seq.{sets, sets-eq, set_comm, length-take-le, take_all, take_at, drop_at}
+use lib.Seq.{sets, sets-eq, set_comm, length-take-le, take_all, take_at, drop_at, take-set-le, drop-set-add}
 
 module _ {A : Type 0} where
   -- some words and then others
@@ -30,6 +30,17 @@ module _ {A : Type 0} where
       (sets-eq vs l at (omega arith) ∙ append_assoc (take at l) vs (drop (at + length vs) l))
       ∙ ap (take n) (drop_at (take at l) (vs ++ drop (at + length vs) l) at (length-take-le at l (omega arith)))
       ∙ take_at vs (drop (at + length vs) l) n e
+
+  part_set : (l : List A) (a : A) (at n place : ℕ) → at + n ≤ place → take n (drop at (set l place a)) ≡ take n (drop at l)
+  part_set l a at n place h =
+      ap (λ (p : ℕ). take n (drop at (set l p a))) {y = at + (place - at)} (omega arith)
+      ∙ ap (take n) (drop-set-add at l (place - at) a)
+      ∙ take-set-le n (drop at l) (place - at) a (omega arith)
+
+  -- a part before the stores stays
+  pub part_kept : (l vs : List A) (at n place : ℕ) → at + n ≤ place → take n (drop at (sets l place vs)) ≡ take n (drop at l)
+  part_kept l [] at n place h = refl
+  part_kept l (a ∷ vs) at n place h = part_kept (set l place a) vs at n (suc place) (omega arith) ∙ part_set l a at n place h
 
   -- a part from a place to the end, as the code lends it
   pub part_all : (at : ℕ) (l : List A) → take (length l - at) (drop at l) ≡ drop at l

@@ -1,13 +1,16 @@
 -- Laws of `tab` and `all`.
 -- Assumes nothing.
 use mathlib.Core.Path.{◌≡◌, refl, sym, ap, ap₂, ◌∙◌}
-use mathlib.Core.Bool.{Bool, true, ◌&&◌, and-true, and_assoc}
+use mathlib.Core.Logic.{inl, inr}
+use mathlib.Core.Bool.{Bool, true, false, ◌&&◌, and-true, and_assoc, true≢false}
 use mathlib.Core.List.{List, [], ◌∷◌, map}
-use Prim.Native.Nat.{ℕ, zero, suc, ◌<◌, zero-le, suc-le-suc}
+use Prim.Native.Nat.{ℕ, zero, suc, ◌+◌, ◌≤◌, ◌<◌, zero-le, suc-le-suc}
 use native.Mathlib.Nat.{not-suc-le-zero, le_of_suc-le-suc}
-use lib.ListN.{length, get_or}
+use native.Mathlib.Numerals.{add-one}
+use lib.ListN.{length, get_or, drop, drop_of_length-le}
+use lib.Seq.{drop-cons}
 use Rattle.lists.specs.Tabulate.{tab, all, each}
-use Rattle.lists.proofs.Bools.{and_intro, and_left, and_right}
+use Rattle.lists.proofs.Bools.{and_intro, and_left, and_right, test}
 
 module _ {A : Type 0} where
   pub length-tab : (n : ℕ) (f : ℕ → A) → length (tab n f) ≡ n
@@ -49,10 +52,38 @@ unfolding all
 all_intro zero p h = refl
 all_intro (suc n) p h = and_intro (h 0 (suc-le-suc zero-le)) (all_intro n (λ j. p (suc j)) (λ i k. h (suc i) (suc-le-suc k)))
 
+-- a test of every place that fails, fails at some place
+pub all_fails : (n : ℕ) (p : ℕ → Bool) → all n p ≡ false → (i : ℕ) × (i < n) × (p i ≡ false)
+unfolding all
+all_fails zero p h = absurd (true≢false h)
+all_fails (suc n) p h =
+    elim (test (p 0)) [
+      | inl e ↦
+          let r : (i : ℕ) × (i < n) × (p (suc i) ≡ false) = all_fails n (λ j. p (suc j)) (rw e at h) in
+          (suc r.0, suc-le-suc r.1, r.2)
+      | inr e ↦ (0, suc-le-suc zero-le, e)
+    ]
+
 pub all_ext : (n : ℕ) (p q : ℕ → Bool) → ((i : ℕ) → i < n → p i ≡ q i) → all n p ≡ all n q
 unfolding all
 all_ext zero p q h = refl
 all_ext (suc n) p q h = ap₂ ◌&&◌ (h 0 (suc-le-suc zero-le)) (all_ext n (λ j. p (suc j)) (λ j. q (suc j)) (λ i k. h (suc i) (suc-le-suc k)))
+
+-- a test of every element of a list is one of every place
+pub each_all : {A : Type 0} (p : A → Bool) (l : List A) (d : A) → each p l ≡ all (length l) (λ i. p (get_or l i d))
+unfolding each all
+each_all p [] d = refl
+each_all p (x ∷ l) d = ap (λ (b : Bool). p x && b) (each_all p l d)
+
+-- a test of the elements from place i on: that of place i and those after it
+pub each-drop : {A : Type 0} (p : A → Bool) (l : List A) (i : ℕ) (d : A) → i < length l → each p (drop i l) ≡ p (get_or l i d) && each p (drop (i + 1) l)
+unfolding each
+each-drop p l i d h = ap (each p) (drop-cons l i d h) ∙ ap (λ (k : ℕ). p (get_or l i d) && each p (drop k l)) (sym (add-one i))
+
+-- and from the end on it passes
+pub each_end : {A : Type 0} (p : A → Bool) (l : List A) (i : ℕ) → length l ≤ i → each p (drop i l) ≡ true
+unfolding each
+each_end p l i h = ap (each p) (drop_of_length-le l h)
 
 pub each-tab : {A : Type 0} (p : A → Bool) (n : ℕ) (f : ℕ → A) → each p (tab n f) ≡ all n (λ i. p (f i))
 unfolding each tab all

@@ -19,3 +19,14 @@ pub fn fill(buffer: &mut [u16], word: u16)
 {
     buffer.fill(word);
 }
+
+// One slice over another of the same length, word by word. The slice's own copy would ask memmove of whoever links the library, which needs memcpy and memset
+// alone.
+pub fn copy<T: Copy>(from: &[T], to: &mut [T])
+    requires { length from.now ≡ length to.old }
+    ensures { to.new ≡ from.now }
+{
+    for (k, word) in to.iter_mut().enumerate() {
+        *word = from[k];
+    }
+}

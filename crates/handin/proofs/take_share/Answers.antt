@@ -14,4 +14,4 @@ returns-then-has c = take_met c.args.s _ _ _ _ (sym c.if-not-within.ensures) (sy
 pub returns : goal.returns
 returns c =
     take_in c.args.s _ _ _ _ (sym c.if-not-within.ensures) _ (sym c.if-has.ensures) c.requires (search rules)
-    (rw (c.copy_from_slice.ensures.after, part_all 1 c.args.numbers.now)) c.with.ensures
+    (rw (c.copy.ensures, part_all 1 c.args.numbers.now)) c.with.ensures

@@ -9,5 +9,5 @@ pub returns : goal.returns
 returns c =
     let s = c.args.self.now in
     let keys = c.gather_keys.ensures.keys (λ k. dealt_α s.shape.t s.shape.d s.random.now k c.args.i) (λ k. dealt_β s.shape.t s.shape.d s.random.now k c.args.i) (λ k r l called. search rules) in
-    c.copy_from_slice.ensures.after
+    c.copy.ensures
     ∙ tags_made s.shape s.day c.args.i s.random.now c.args.words.now _ _ _ keys.0 keys.1 c.tags_with_first.ensures
