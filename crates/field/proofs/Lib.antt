@@ -3,6 +3,7 @@ pub mod Congruence
 pub mod Dot
 pub mod Examples
 pub mod Fermat
+pub mod Fits
 pub mod Operations
 pub mod Squaring
 pub mod Table

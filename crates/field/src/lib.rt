@@ -164,7 +164,7 @@ pub fn is_field_word(word: u16) -> bool
 
 // Every word is a field word. All are tested, so that the compiler tests several at once.
 #[tactic(auto, using(lists::proofs::Loops::tests))]
-pub fn are_field_words(words: &[u16]) -> bool
+fn test_all(words: &[u16]) -> bool
     ensures { result ≡ each is_field_word words.now }
 {
     let mut all = true;
@@ -172,4 +172,19 @@ pub fn are_field_words(words: &[u16]) -> bool
         all &= is_field_word(*word);
     }
     all
+}
+
+// Every word is a field word. Tested 16 at a time: the first 16 of which one is too large decide, and the rest is not looked at.
+pub fn are_field_words(words: &[u16]) -> bool
+    ensures { result ≡ each is_field_word words.now }
+{
+    let mut rest = words;
+    while 16 <= rest.len() {
+        let (block, after) = rest.split_at(16);
+        if !test_all(block) {
+            return false;
+        }
+        rest = after;
+    }
+    test_all(rest)
 }

@@ -163,16 +163,18 @@ const TENS: [u32; 9] = [
     10, 100, 1000, 10000, 100000, 1000000, 10000000, 100000000, 1000000000,
 ];
 
-// How many digits a number has: one, and one more for each power of ten that it reaches. By `checked_ilog10` writing took 1.4 times as long.
+// How many digits a number has: one, and one more for each power of ten that it reaches. By `checked_ilog10` writing took 1.4 times as long, and with all
+// powers looked at, also past the first that is not reached, writing words of one digit took 2.5 times as long.
 fn count_digits(n: u32) -> usize
     ensures exact { result ≡ length (digits 10 n) }
     ensures few { result ≤ 10 }
 {
     let mut count = 1;
     for power in &TENS {
-        if *power <= n {
-            count += 1;
+        if n < *power {
+            return count;
         }
+        count += 1;
     }
     count
 }
@@ -246,17 +248,22 @@ impl<'a> Output<'a> {
         let at = self.end;
         let end = at + bytes.len();
         let room = &mut *self.bytes;
-        room[at..end].copy_from_slice(bytes);
+        lists::copy(bytes, &mut room[at..end]);
         self.end = end;
     }
 
     // The digits of a number, from the last down to the first. Printed by hand: the library, whose writer prints a share's words by it, needs nothing but
-    // memcpy and memset, so no formatter. The loop goes over places, since nothing would be known of the bytes after `iter_mut().rev()`.
+    // memcpy and memset, so no formatter. The loop goes over places, since nothing would be known of the bytes after `iter_mut().rev()`. A single digit goes its own
+    // way: writing words of one digit took 1.6 times as long without.
     fn put_digits(&mut self, n: u32)
         requires { self.old.end + length (digits 10 n) ≤ length self.old.bytes.now }
         ensures same_reference { self.new.bytes.ghost_name ≡ self.old.bytes.ghost_name }
         ensures written { Written self.old.bytes.now self.old.end (digits 10 n) self.new.bytes.now self.new.end }
     {
+        if n < 10 {
+            self.put_byte(48 + n as u8); // no division
+            return;
+        }
         let at = self.end;
         let end = at + count_digits(n);
         let bytes = &mut *self.bytes;
