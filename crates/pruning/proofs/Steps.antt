@@ -3,7 +3,7 @@
 use mathlib.Core.Path.{◌≡◌, refl, ap, ◌∙◌}
 use mathlib.Core.Bool.{Bool, true, ◌&&◌}
 use mathlib.Core.List.{List, [], ◌∷◌}
-use Prim.Native.Nat.{ℕ, ◌+◌, ◌≤◌, ◌<◌, ◌^◌}
+use Prim.Native.Nat.{ℕ, ◌+◌, ◌≤◌, ◌<◌}
 use lib.ListN.{length, get_or, drop}
 use Rattle.std.specs.List.{list_all}
 use Rattle.lists.specs.Tabulate.{tab, each}
@@ -11,7 +11,6 @@ use Rattle.lists.proofs.Count.{to_ℕ}
 use Rattle.lists.proofs.Loops.{read_kept}
 use Rattle.lists.proofs.Tabulate.{length-tab, get_or-tab}
 use Rattle.members.specs.Members.{size, has, is_set, striking, first_of, common}
-use Rattle.members.proofs.Masks.{has_inside}
 use Rattle.members.proofs.Words.{size_32, first_of-lt, common-count}
 use Rattle.pruning.specs.Pruning.{votes}
 use Rattle.pruning.specs.Counts.{Table, counted}
@@ -41,10 +40,10 @@ counted_long t rows set counts e = ap length e ∙ length-tab (size t) (votes t 
 -- ---- one strike
 
 -- a count that the strike of member i has not come to yet is that member's vote and the votes that are left
-pub vote_there : (t : ℕ) (rows : List ℕ) (set i k : ℕ) (counts : List ℕ) → Table t rows → set < 2 ^ size t → has set i ≡ true → k < size t
+pub vote_there : (t : ℕ) (rows : List ℕ) (set i k : ℕ) (counts : List ℕ) → Table t rows → i < size t → has set i ≡ true → k < size t
     → drop k counts ≡ drop k (counted t rows set) → get_or counts k 0 ≡ to_ℕ (has (get_or rows k 0) i) + votes t rows (striking set i) k
 unfolding counted
-vote_there t rows set i k counts table below member h kept =
+vote_there t rows set i k counts table inside member h kept =
     read_kept counts (tab (size t) (votes t rows set)) k 0 kept
     ∙ get_or-tab (size t) (votes t rows set) k 0 h
-    ∙ votes_apart t rows set i table.few (has_inside (size t) set i below member) member k
+    ∙ votes_apart t rows set i table.few inside member k

@@ -17,7 +17,7 @@ use Rattle.members.specs.Members.{size, has, striking, first_of}
 use Rattle.members.specs.Internal.Lowest.{First}
 use Rattle.members.proofs.Masks.{has-zero, has_inside}
 use Rattle.members.proofs.Words.{size_32, first_of-all, first_of-lt, has-striking, striking_less}
-use Rattle.pruning.specs.Pruning.{votes, survivors}
+use Rattle.pruning.specs.Pruning.{votes, survivors, Closed}
 use Rattle.pruning.specs.Counts.{counted, AfterStrike}
 use Rattle.pruning.specs.Internal.Steps.{Short, NobodyShort}
 use Rattle.pruning.specs.declared.Votes.{Votes}
@@ -31,27 +31,25 @@ pub record Looking (left : Remaining) (rest : ℕ) : Type 0 where
   pub part : (k : ℕ) → has rest k ≡ true → has left.set k ≡ true
   pub enough : (k : ℕ) → has left.set k ≡ true → (has rest k ≡ true) ⊎ (left.votes.t + 1 ≤ get_or left.counts.now k 0)
 
--- what is left of a station's votes: nobody who is struck is in a closed set
+-- what is left of a station's votes: a set of its members, and nobody who is struck is in a closed set
 pub record Going (votes : Votes) (left : Remaining) : Type 0 where
   pub same_votes : left.votes ≡ votes
+  pub below : left.set < 2 ^ size left.votes.t
   pub above : Above left.votes.t left.votes.rows.now left.set
-
-pub everybody_below : (votes : Votes) (n set : ℕ) → n ≡ size votes.t → set ≡ first_of n → set < 2 ^ size votes.t
-everybody_below votes n set sized all =
-    subst (λ (x : ℕ). x < 2 ^ size votes.t) (sym (all ∙ ap first_of sized)) (first_of-lt (size votes.t) (size_32 votes.t votes.table.few))
 
 pub going_first : (votes : Votes) (left : Remaining) → (left.votes ≡ votes) × (left.set ≡ first_of (size votes.t)) → Going votes left
 going_first votes left (same, all) =
     let everybody : left.set ≡ first_of (size left.votes.t) = all ∙ ap (λ (v : Votes). first_of (size v.t)) (sym same) in
+    let room : size left.votes.t ≤ 32 = size_32 left.votes.t left.votes.table.few in
     record {
       same_votes = same;
+      below = subst (λ (x : ℕ). x < 2 ^ size left.votes.t) (sym everybody) (first_of-lt (size left.votes.t) room);
       above =
-          subst (Above left.votes.t left.votes.rows.now)
-          (sym (everybody ∙ first_of-all (size left.votes.t) (size_32 left.votes.t left.votes.table.few)))
+          subst (Above left.votes.t left.votes.rows.now) (sym (everybody ∙ first_of-all (size left.votes.t) room))
           (above_all left.votes.t left.votes.rows.now);
     }
 
-module _ (left : Remaining) where
+module _ (left : Remaining) (below : left.set < 2 ^ size left.votes.t) where
   abbrev t : ℕ
   t = left.votes.t
 
@@ -62,10 +60,10 @@ module _ (left : Remaining) where
   room = size_32 t left.votes.table.few
 
   narrow : left.set < 2 ^ 32
-  narrow = lt_of_lt_of_le left.below (pow_mono room)
+  narrow = lt_of_lt_of_le below (pow_mono room)
 
   counts_long : left.set < 2 ^ length left.counts.now
-  counts_long = subst (λ (n : ℕ). left.set < 2 ^ n) (sym (counted_long t rows left.set left.counts.now left.exact)) left.below
+  counts_long = subst (λ (n : ℕ). left.set < 2 ^ n) (sym (counted_long t rows left.set left.counts.now left.exact)) below
 
   -- ---- the next short member
 
@@ -107,45 +105,55 @@ module _ (left : Remaining) where
   count_of k h = ap (λ (l : List ℕ). get_or l k 0) left.exact ∙ get_or-tab (size t) (votes t rows left.set) k 0 h
 
   -- nobody is short: the set is closed
-  pub going_done : (station : Votes) → Going station left → NobodyShort (t + 1) left.set left.counts.now → left.set ≡ survivors station.t station.rows.now
-  going_done station going nobody =
-      struck_survivors t rows left.set left.below going.above (record { accepted = votes_enough })
+  closed : NobodyShort (t + 1) left.set left.counts.now → Closed t rows left.set
+  closed nobody = record { accepted = λ k l y. omega (arith, count_of k l, nobody.enough k y) }
+
+  module _ (i : ℕ) (first : Short (t + 1) left.set left.counts.now i) where
+    inside : i < size t
+    inside = has_inside (size t) left.set i below first.member
+
+    module _ (next : Remaining) (strike : AfterStrike t rows left.set i next.set next.counts.now) where
+      less : next.set < left.set
+      less = subst (λ (x : ℕ). x < left.set) (sym strike.without) (striking_less left.set i narrow (lt_of_lt_of_le inside room) first.member)
+
+      keeps : (k : ℕ) → k < size t → has left.set k ≡ true → suc t ≤ votes t rows left.set k → has next.set k ≡ true
+      keeps k l y v =
+          ap (λ (x : ℕ). has x k) strike.without ∙ has-striking left.set i k (lt_of_lt_of_le l room)
+          ∙ and_intro y (ap not (ne_eqb k i (λ e. not-le_of_lt few (subst (λ (x : ℕ). suc t ≤ votes t rows left.set x) e v))))
+        where
+          few : votes t rows left.set i < suc t
+          few = omega (arith, count_of i inside, first.short)
+
+module _ (station : Votes) (left : Remaining) (going : Going station left) where
+  pub going_room : left.set < 2 ^ size left.votes.t
+  going_room = going.below
+
+  pub going_done : NobodyShort (left.votes.t + 1) left.set left.counts.now → left.set ≡ survivors station.t station.rows.now
+  going_done nobody =
+      struck_survivors left.votes.t left.votes.rows.now left.set going.below going.above (closed left going.below nobody)
       ∙ ap (λ (v : Votes). survivors v.t v.rows.now) going.same_votes
-    where
-      votes_enough : (k : ℕ) → k < size t → has left.set k ≡ true → suc t ≤ votes t rows left.set k
-      votes_enough k l y = omega (arith, count_of k l, nobody.enough k y)
 
-  module _ (i next : ℕ) (member : has left.set i ≡ true) (without : next ≡ striking left.set i) where
-    struck_less : next < left.set
-    struck_less =
-        let inside : i < size t = has_inside (size t) left.set i left.below member in
-        subst (λ (x : ℕ). x < left.set) (sym without) (striking_less left.set i narrow (lt_of_lt_of_le inside room) member)
+  module _ (i : ℕ) (first : Short (left.votes.t + 1) left.set left.counts.now i) where
+    pub going_inside : i < size left.votes.t
+    going_inside = inside left going.below i first
 
-    pub struck_below : next < 2 ^ size t
-    struck_below = lt_trans struck_less left.below
+    module _ (next : Remaining) (strike : AfterStrike left.votes.t left.votes.rows.now left.set i next.set next.counts.now) where
+      pub going_less : next.set < left.set
+      going_less = less left going.below i first next strike
 
-  module _ (i : ℕ) (first : Short (t + 1) left.set left.counts.now i) (next : Remaining) (strike : AfterStrike t rows left.set i next.set next.counts.now) where
-    keeps : (k : ℕ) → k < size t → has left.set k ≡ true → suc t ≤ votes t rows left.set k → has next.set k ≡ true
-    keeps k l y v =
-        ap (λ (x : ℕ). has x k) strike.without ∙ has-striking left.set i k (lt_of_lt_of_le l room)
-        ∙ and_intro y (ap not (ne_eqb k i (λ e. not-le_of_lt few (subst (λ (x : ℕ). suc t ≤ votes t rows left.set x) e v))))
-      where
-        few : votes t rows left.set i < suc t
-        few = omega (arith, count_of i (has_inside (size t) left.set i left.below first.member), first.short)
-
-    pub going_less : next.set < left.set
-    going_less = struck_less i next.set first.member strike.without
-
-    pub going_on : (station : Votes) → Going station left → next.votes ≡ left.votes → Going station next
-    going_on station going same =
-        record {
-          same_votes = same ∙ going.same_votes;
-          above = subst (λ (v : Votes). Above v.t v.rows.now next.set) (sym same) (above_strike t rows left.set next.set going.above keeps);
-        }
+      pub going_on : next.votes ≡ left.votes → Going station next
+      going_on same =
+          record {
+            same_votes = same ∙ going.same_votes;
+            below = subst (λ (v : Votes). next.set < 2 ^ size v.t) (sym same) (lt_trans going_less going.below);
+            above =
+                subst (λ (v : Votes). Above v.t v.rows.now next.set) (sym same)
+                (above_strike left.votes.t left.votes.rows.now left.set next.set going.above (keeps left going.below i first next strike));
+          }
 
 -- for the loops as the code makes them: the search for a short member, one strike, and the strikes one after the other
 pub ruleset looking = (looking_inside, looking_next, looking_none)
 
-pub ruleset one_struck = (vote_there, counted_long, struck_below)
+pub ruleset one_struck = (vote_there, counted_long)
 
-pub ruleset going = (going_first, going_less, going_on, going_done)
+pub ruleset going = (going_first, going_room, going_inside, going_less, going_on, going_done)

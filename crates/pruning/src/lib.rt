@@ -40,13 +40,12 @@ struct Remaining<'a, 'c> {
     votes: Votes<'a>,
     set: u32,
     counts: &'c mut [u32],
-    ghost below: { set < 2 ^ size votes.t },
     ghost exact: { counts.now ≡ counted votes.t votes.rows.now set },
 }
 
 impl<'a> Votes<'a> {
     // Everybody, with the votes that each member has from everybody.
-    #[tactic(auto, using(lists::proofs::Loops::writes, crate::proofs::Steps::votes_counted, crate::proofs::Striking::everybody_below), unfolding(crate::specs::Counts::counted))]
+    #[tactic(auto, using(lists::proofs::Loops::writes, crate::proofs::Steps::votes_counted), unfolding(crate::specs::Counts::counted))]
     fn count<'c>(&self, counts: &'c mut [u32]) -> Remaining<'a, 'c>
         requires { length counts.old ≡ size self.now.t }
         ensures { (result.votes ≡ self.now) × (result.set ≡ first_of (size self.now.t)) }
@@ -80,6 +79,7 @@ impl<'a, 'c> Remaining<'a, 'c> {
     // The first who is short of t + 1 votes; None: nobody is. A mask is no slice to iterate: its lowest member is looked at, and left out.
     #[tactic(auto, using(crate::proofs::Striking::looking))]
     fn next_short(&self) -> Option<usize>
+        requires { self.now.set < 2 ^ size self.now.votes.t }
         ensures { FirstShort (self.now.votes.t + 1) self.now.set self.now.counts.now result }
     {
         let need = self.votes.t + 1;
@@ -93,10 +93,10 @@ impl<'a, 'c> Remaining<'a, 'c> {
         None
     }
 
-    // Those left once member i is struck: its vote is taken off the count of each whom it accepted.
+    // Those left once member i is struck, from any set: its vote is taken off the count of each whom it accepted.
     #[tactic(auto, using(lists::proofs::Loops::rewrites, crate::proofs::Striking::one_struck), unfolding(crate::specs::Counts::counted))]
     fn strike(self, i: usize) -> Remaining<'a, 'c>
-        requires { has self.set i ≡ true }
+        requires { (i < size self.votes.t) × (has self.set i ≡ true) }
         ensures same_votes { result.votes ≡ self.entry.votes }
         ensures struck { AfterStrike self.entry.votes.t self.entry.votes.rows.now self.entry.set i result.set result.counts.now }
     {

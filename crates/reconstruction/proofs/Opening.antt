@@ -1,15 +1,17 @@
 -- What opening answers, for any distinct points: 16 exactly where nothing fits, and else the only answer.
 -- Assumes nothing.
-use mathlib.Core.Path.{◌≡◌}
+use mathlib.Core.Path.{◌≡◌, sym, ◌∙◌}
 use mathlib.Core.Logic.{inl, inr}
-use mathlib.Core.Bool.{true}
+use mathlib.Core.Bool.{Bool, true}
 use mathlib.Core.List.{List}
 use Rattle.std.proofs.Common.{Err}
-use Prim.Native.Nat.{ℕ, suc, ◌*◌, ◌^◌, ◌≤◌, ◌<◌}
+use Prim.Native.Nat.{ℕ, suc, ◌+◌, ◌*◌, ◌^◌, ◌≤◌, ◌<◌}
 use native.Mathlib.Omega.{arith}
+use native.Mathlib.Numerals.{add-one}
 use lib.Dec.{eqb}
 use lib.ListN.{length, replicate}
 use borrow.Author.Tests.{le-leb, lt-ltb, eq-eqb, ne_eqb}
+use Rattle.lists.specs.Checks.{within}
 use Rattle.lists.proofs.Bools.{test}
 use Rattle.lists.proofs.Checks.{within_low, within_high}
 use Rattle.members.specs.Members.{is_threshold, size, own_points, card}
@@ -65,6 +67,23 @@ required_most t quorum low h =
       | inl e ↦ rw e (omega (arith, low))
       | inr e ↦ rw e (within_high (suc t) (size t) quorum (rw e at h))
     ]
+
+-- what the tests of a quorum come to
+module _ (t quorum : ℕ) where
+  -- another quorum than 0 is required as it stands
+  pub required_other : (quorum ≡ 0 → ⊥) → quorum ≡ required t quorum
+  unfolding required
+  required_other h = rw (ne_eqb quorum 0 h)
+
+  -- 0 is a quorum
+  pub quorum_0 : quorum ≡ 0 → true ≡ is_quorum t quorum
+  unfolding is_quorum
+  quorum_0 e = rw (eq-eqb quorum 0 e)
+
+  -- another is one if it is from t + 1 to n
+  pub quorum_other : (n : ℕ) → n ≡ size t → (quorum ≡ 0 → ⊥) → (b : Bool) → b ≡ within (t + 1) n quorum → b ≡ is_quorum t quorum
+  unfolding is_quorum
+  quorum_other n e h b eb = eb ∙ sym (rw (ne_eqb quorum 0 h, ← e, ← add-one))
 
 -- a refusal's answer
 pub refused_so : (d survived : ℕ) (why : Refusal) (secret : List ℕ) → secret ≡ replicate d 65535

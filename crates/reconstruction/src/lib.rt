@@ -9,6 +9,7 @@ ghost use Rattle.members.specs.Members.{is_threshold, size, own_points, has, set
 ghost use Rattle.pruning.specs.Pruning.{survivors};
 ghost use Rattle.decoding.specs.Answer.{answer_of as decoded_of};
 ghost use Rattle.decoding.specs.Decoding.{need, find, decoded_from};
+ghost use Rattle.shares.specs.Layout.{share_word};
 ghost use Rattle.reconstruction.specs.Answer.{answer_of, answered_of};
 ghost use Rattle.reconstruction.specs.Reconstruction.{unopened, is_quorum, required, turned_away, reconstruct as reconstruct_of};
 ghost use Rattle.parity.specs.Internal.Looking.{with_values};
@@ -73,6 +74,20 @@ struct Word {
     anew: bool,
     met: u32,
     value: u16,
+}
+
+// The quick look, where all n members survive: it opens the words that pass it before one that does not, and says how many. It asks nothing of the set, nor of
+// the words, so it takes them as they are and no `Survivors`.
+fn open_quickly(shares: &Shares, survivors: u32, secret: &mut [u16]) -> usize
+    requires secret_len { length secret.old ≡ shares.now.shape.d }
+    ensures value { result ≡ quickly shares.now.shape shares.now.words.now survivors }
+    ensures secret_after { secret.new ≡ with_values shares.now.shape.t result (share_word shares.now.shape.t shares.now.shape.d shares.now.words.now) secret.old }
+{
+    let all = members::first(shares.shape.n);
+    if survivors != all {
+        return 0; // somebody was struck
+    }
+    parity::look(shares, secret)
 }
 
 // A station's shares, and the survivors of the votes, whose words are opened. Words are plain indices below d, as members are below n. Buffers of t + 1, n + 1
@@ -213,25 +228,12 @@ impl Survivors<'_> {
         })
     }
 
-    // The quick look, where all n members survive: it opens the words that pass it before one that does not, and says how many.
-    fn open_quickly(&self, secret: &mut [u16]) -> usize
-        requires secret_len { length secret.old ≡ self.now.shares.shape.d }
-        ensures value { result ≡ quickly self.now.shares.shape self.now.shares.words.now self.now.set }
-        ensures secret_after { secret.new ≡ with_values self.now.shares.shape.t result (words self.now) secret.old }
-    {
-        let all = members::first(self.shares.shape.n);
-        if self.set != all {
-            return 0; // somebody was struck
-        }
-        parity::look(&self.shares, secret)
-    }
-
     // All words, those that the look opens first. Where it opens all, no matrix is made.
     fn open_all(&self, secret: &mut [u16]) -> Result<Opened, Unopened>
         requires secret_len { length secret.old ≡ self.now.shares.shape.d }
         ensures { answer_of result secret.new ≡ by_words self.now.shares.shape self.now.shares.words.now self.now.set }
     {
-        let done = self.open_quickly(secret);
+        let done = open_quickly(&self.shares, self.set, secret);
         if done == self.shares.shape.d {
             return Ok(Opened {
                 survivors: self.set,

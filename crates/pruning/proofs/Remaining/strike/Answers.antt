@@ -8,4 +8,4 @@ use Rattle.pruning.proofs.Remaining.strike.Goals as goal
 pub votes_left-requires : goal.votes_left-requires
 votes_left-requires c =
     let inside : c.loop-k.k < size c.args.self.votes.t = omega (arith, counted_long _ _ _ _ c.args.self.exact) in
-    omega (arith, vote_there _ _ _ _ _ _ c.args.self.votes.table c.args.self.below c.requires inside c.loop-k.invariant.1)
+    omega (arith, vote_there _ _ _ _ _ _ c.args.self.votes.table c.requires.0 c.requires.1 inside c.loop-k.invariant.1)

@@ -1,7 +1,0 @@
--- `reconstruction::Survivors::open_quickly`: where somebody was struck nothing is opened.
--- Assumes nothing.
-use Rattle.reconstruction.proofs.Quick.{none_opened}
-use Rattle.reconstruction.proofs.Survivors.open_quickly.Goals as goal
-
-pub returns-then-self-all-clause-secret_after : goal.returns-then-self-all-clause-secret_after
-returns-then-self-all-clause-secret_after c = none_opened _ _ _
