@@ -1,10 +1,10 @@
--- `mac::tags_with_first`: the lanes below j have their tags, and the others still the value of the rest.
+-- `mac::fill_lanes`: the lanes below j have their tags, and the others still the value of the rest.
 -- Assumes nothing.
 use Rattle.std.proofs.Common.{◌≡◌, ◌∷◌, get_or, take, drop}
 use Rattle.lists.specs.Tabulate.{tab}
 use Rattle.polynomial.specs.Polynomial.{value}
 use Rattle.mac.specs.Tag.{tag}
-use Rattle.mac.proofs.tags_with_first.Given as goal
+use Rattle.mac.proofs.fill_lanes.Given as goal
 
 abbrev pub invariant-loop-j : goal.invariant-loop-j
 invariant-loop-j l =
