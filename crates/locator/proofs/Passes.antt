@@ -1,9 +1,18 @@
 -- The loop over the members: after i of them the pairs are the state after i members.
 -- Assumes nothing.
 use Rattle.std.proofs.Common.{◌≡◌, ℕ, suc, ◌+◌, ◌≤◌, Bool, true, false, cond, List, get_or, sym, ap, ◌∙◌, add-one, arith}
+use mathlib.Core.Bool.{not}
 use lib.Dec.{eqb}
+use borrow.Author.Tests.{not-true, not-false}
 use Rattle.members.specs.Members.{has}
 use Rattle.locator.specs.Internal.Pairs.{off_by, State, first_up, second_up, first_turn, step_by, stepped, passed}
+
+-- a choice by a test that the code negates: a member outside the set, and one in it
+pub left_out : {A : Type 0} (b : Bool) (u s : A) → not b ≡ true → s ≡ cond b u s
+left_out b u s n = sym (ap (λ (c : Bool). cond c u s) (not-true b n))
+
+pub taken_in : {A : Type 0} (b : Bool) (r u s : A) → not b ≡ false → r ≡ u → r ≡ cond b u s
+taken_in b r u s n h = h ∙ sym (ap (λ (c : Bool). cond c u s) (not-false b n))
 
 -- a step raises one degree at most
 by_turn : (b c : Bool) (x d0 d1 : ℕ) (s : State)

@@ -106,6 +106,10 @@ pub card-first_of : (n : ℕ) → n ≤ 32 → card n (first_of n) ≡ n
 unfolding card
 card-first_of n l = count-all n (has (first_of n)) (λ i h. has-first_of n i l h)
 
+-- a mask has no bit beyond the n members if it is at most all of them
+pub first_of-is_set : (n m : ℕ) → n ≤ 32 → leb m (first_of n) ≡ is_set n m
+first_of-is_set n m l = sym (leb-suc-suc m (first_of n)) ∙ ap (leb (suc m)) (first_of-power n l)
+
 -- a set of n members with one of them more
 pub set_of_more : (n i : ℕ) (p q : ℕ → Bool) → n ≤ 32 → i < n → q i ≡ true → ((j : ℕ) → j < n → (j ≡ i → ⊥) → q j ≡ p j) → adding (set_of n p) i ≡ set_of n q
 unfolding adding
@@ -212,7 +216,7 @@ pub at_most_first : (n m f : ℕ) → m < 2 ^ 32 → f ≡ first_of n → leb m 
 at_most_first n m f h e =
     ap (leb m) e
     ∙ elim (dec_le n 32) [
-      | yes l ↦ sym (leb-suc-suc m (first_of n)) ∙ ap (leb (suc m)) (first_of-power n l)
+      | yes l ↦ first_of-is_set n m l
       | no l ↦
           let wide : 32 ≤ n = omega arith in
           le-leb m (first_of n) (omega (arith, h, first_of_beyond n wide)) ∙ sym (lt-ltb m (2 ^ n) (lt_of_lt_of_le h (pow_mono wide)))

@@ -109,6 +109,10 @@ module _ (d : ℕ) (y : ℕ → ℕ → ℕ) (row : List ℕ) where
       joined : (p l h : ℕ) {l' h' n : ℕ} → l' ≡ l + p % 65536 → h' ≡ h + p / 65536 → l + 65536 * h ≡ n → l' + 65536 * h' ≡ n + p
       joined p l h el eh e = omega arith
 
+  -- the sums of all members, where the last has been taken
+  pub summed_last : (low high : List ℕ) (i n : ℕ) → i ≡ n → Summed d y row i low high → Summed d y row n low high
+  summed_last low high i n e h = subst (λ (m : ℕ). Summed d y row m low high) e h
+
 -- the sum that is read is the row's
 pub sum_at_lem : (d n : ℕ) (y : ℕ → ℕ → ℕ) (row low high : List ℕ) → Summed d y row n low high → (k : ℕ) → k < d → sum_at low high k ≡ dot n row (λ i. y i k)
 unfolding sum_at dot

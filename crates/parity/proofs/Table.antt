@@ -4,7 +4,7 @@ use mathlib.Core.Path.{◌≡◌, refl}
 use mathlib.Core.Bool.{Bool, true, ◌&&◌}
 use mathlib.Core.Logic.{inl, inr}
 use Prim.Native.Nat.{ℕ, zero, suc, ◌-◌, ◌*◌, ◌%◌, ◌≤◌, ◌<◌}
-use native.Mathlib.Nat.{not-suc-le-zero, mul_comm, mul-zero, zero-mul}
+use native.Mathlib.Nat.{not-suc-le-zero, mul-le-mul, mul_comm, mul-zero, zero-mul}
 use native.Mathlib.Omega.{arith}
 use lib.Dec.{eqb, ltb}
 use lib.ListN.{get_or}
@@ -45,6 +45,10 @@ follows t i = ltb (weight (size t) i) prime && eqb (product (weight (size t) i) 
 all_follow : everywhere follows ≡ true
 unfolding everywhere follows all size weight factorial sign product inverse power
 all_follow = refl
+
+-- t times t, for its place
+pub square : (t : ℕ) → 1 ≤ t → t ≤ 15 → (1 ≤ t * t) × (t * t ≤ 225)
+square t low high = (mul-le-mul low low, mul-le-mul high high)
 
 -- 1 and −1 are not 0
 sign-not_0 : (k : ℕ) → sign k ≈ 0 → ⊥

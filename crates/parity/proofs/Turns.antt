@@ -192,21 +192,27 @@ front : (l vs : List ℕ) (k : ℕ) → length vs ≡ k → k ≤ length l → v
 front l vs k e h = ap (λ (n : ℕ). vs ++ drop n l) {y = 0 + length vs} (omega arith) ∙ sym (sets-eq vs l 0 (omega arith))
 
 -- the values that are stored are those at 0
-pub stored_values : (t n d : ℕ) (y : ℕ → ℕ → ℕ) (row low high : List ℕ) (k m : ℕ) (before values : List ℕ) → n ≡ size t → row ≡ tab n (zero_weight n)
-    → Summed d y row n low high → k ≤ d → k ≤ length before → m ≡ k → values ≡ tab m (sum_at low high) → values ++ drop k before ≡ with_values t k y before
+pub stored_values : (t n d : ℕ) (y : ℕ → ℕ → ℕ) (row low high : List ℕ) (k : ℕ) (before after : List ℕ) → n ≡ size t → row ≡ tab (size t) (zero_weight (size t))
+    → Summed d y row n low high → k ≤ d → after ≡ sets before 0 (tab k (sum_at low high)) → after ≡ with_values t k y before
 unfolding with_values constant dot
-stored_values t n d y row low high k m before values en er sums few inside em ev =
-    let own : values ≡ tab k (sum_at low high) = ev ∙ ap (λ (j : ℕ). tab j (sum_at low high)) em in
-    front before values k (ap length own ∙ length-tab k (sum_at low high)) inside
+stored_values t n d y row low high k before after en er sums few ea =
+    ea
     ∙ ap (sets before 0)
-    (own
-    ∙ tab_ext k (sum_at low high) (λ j. constant (size t) (λ i. y i j))
+    (tab_ext k (sum_at low high) (λ j. constant (size t) (λ i. y i j))
     (λ j l.
     sum_at_lem d n y row low high sums j (omega (arith, l, few))
+    ∙ ap (λ (m : ℕ). dot m row (λ i. y i j)) en
     ∙ ap (λ (m : ℕ). m % prime)
-    (sum_to_ext n (λ i. get_or row i 0 * y i j) (λ i. zero_weight n i * y i j)
-    (λ i h. ap (λ (w : ℕ). w * y i j) (ap (λ (r : List ℕ). get_or r i 0) er ∙ get_or-tab n (zero_weight n) i 0 h)))
-    ∙ ap (λ (m : ℕ). constant m (λ i. y i j)) en))
+    (sum_to_ext (size t) (λ i. get_or row i 0 * y i j) (λ i. zero_weight (size t) i * y i j)
+    (λ i h. ap (λ (w : ℕ). w * y i j) (ap (λ (r : List ℕ). get_or r i 0) er ∙ get_or-tab (size t) (zero_weight (size t)) i 0 h)))))
+
+-- also where they are stored in a part that has as many places
+pub stored_in_part : (t n d : ℕ) (y : ℕ → ℕ → ℕ) (row low high : List ℕ) (k m : ℕ) (before values : List ℕ) → n ≡ size t → row ≡ tab n (zero_weight n)
+    → Summed d y row n low high → k ≤ d → k ≤ length before → m ≡ k → values ≡ tab m (sum_at low high) → values ++ drop k before ≡ with_values t k y before
+stored_in_part t n d y row low high k m before values en er sums few inside em ev =
+    let own : values ≡ tab k (sum_at low high) = ev ∙ ap (λ (j : ℕ). tab j (sum_at low high)) em in
+    front before values k (ap length own ∙ length-tab k (sum_at low high)) inside
+    ∙ stored_values t n d y row low high k before (sets before 0 values) en (er ∙ ap (λ (j : ℕ). tab j (zero_weight j)) en) sums few (ap (sets before 0) own)
 
 -- and are read there
 pub opened_at : (t k : ℕ) (y : ℕ → ℕ → ℕ) (secret : List ℕ) (j : ℕ) → k ≤ length secret → j < k → get_or (with_values t k y secret) j 0 ≡ constant (size t) (λ i. y i j)

@@ -26,6 +26,12 @@ value-eq f g x y h = eq_same (value-word f x) (value-word g y) (same_trans (valu
 pub eval-eq : (f g : List ℕ) (x y : ℕ) → value f x ≡ value g y → eval f x ≈ eval g y
 eval-eq f g x y h = same_trans (same_sym (value_same f x)) (same_trans (same_eq h) (value_same g y))
 
+-- the point may be taken modulo p
+pub eval_point : (cs : List ℕ) {x y : ℕ} → x ≈ y → eval cs x ≈ eval cs y
+unfolding eval
+eval_point [] h = same_refl
+eval_point (c ∷ cs) h = same_refl ⊕ (h ⊗ eval_point cs h)
+
 -- Horner's step
 pub value-cons : (c : ℕ) (cs : List ℕ) (x : ℕ) → value (c ∷ cs) x ≡ sum c (product x (value cs x))
 unfolding eval

@@ -53,5 +53,9 @@ reported {text} {m = m} {end = end} w same front e =
     let w : Written _ 0 (report text) m end = rw (same, front) at w in
     rw e (record { printed = written_front w; long = written_count w })
 
+-- what is printed is in the buffer
+pub reported_inside : {text before after : List ℕ} {count : ℕ} → Reported text before after count → count ≤ length after
+reported_inside r = omega (arith, r.long, simp length-append at (ap length r.printed))
+
 -- how long what is printed can be
 pub ruleset lengths = (place_short, word_short, field_short, open_short, length-take-le)

@@ -1,0 +1,2 @@
+-- What is proved of this crate.
+pub mod Calls
