@@ -94,7 +94,7 @@ extern "C" {
    stack, without what memcpy and memset take themselves. In brackets the sum of the frames along the
    deepest chain of calls, in the code that crosscheck/build writes for x86-64; no figure is less than
    its sum. examples/stack_use.c looks that no call takes more. */
-#define RUTZEBAM_DEAL_STACK_BYTES 1536   /* (1168) */
+#define RUTZEBAM_DEAL_STACK_BYTES 1536   /* (1120) */
 #define RUTZEBAM_OPEN_STACK_BYTES 2816   /* (2256) */
 #define RUTZEBAM_PRUNE_STACK_BYTES 256   /* (32) */
 #define RUTZEBAM_DECODE_STACK_BYTES 1280 /* (584) */
