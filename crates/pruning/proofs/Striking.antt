@@ -1,6 +1,6 @@
 -- Those not struck yet: what stays true when a short member is struck, and that they are the survivors once nobody is short.
 -- Assumes nothing.
-use mathlib.Core.Path.{◌≡◌, sym, ap, ◌∙◌, subst}
+use mathlib.Core.Path.{◌≡◌, refl, sym, ap, ◌∙◌, subst}
 use mathlib.Core.Logic.{◌⊎◌, inl, inr, ⊎_elim}
 use mathlib.Core.Bool.{true, false, ◌&&◌, not}
 use mathlib.Core.List.{List}
@@ -37,13 +37,17 @@ pub record Going (votes : Votes) (left : Remaining) : Type 0 where
   pub below : left.set < 2 ^ size left.votes.t
   pub above : Above left.votes.t left.votes.rows.now left.set
 
+pub everybody_below : (votes : Votes) (n set : ℕ) → n ≡ size votes.t → set ≡ first_of n → set < 2 ^ size votes.t
+everybody_below votes n set sized all =
+    subst (λ (x : ℕ). x < 2 ^ size votes.t) (sym (all ∙ ap first_of sized)) (first_of-lt (size votes.t) (size_32 votes.t votes.table.few))
+
 pub going_first : (votes : Votes) (left : Remaining) → (left.votes ≡ votes) × (left.set ≡ first_of (size votes.t)) → Going votes left
 going_first votes left (same, all) =
     let everybody : left.set ≡ first_of (size left.votes.t) = all ∙ ap (λ (v : Votes). first_of (size v.t)) (sym same) in
     let room : size left.votes.t ≤ 32 = size_32 left.votes.t left.votes.table.few in
     record {
       same_votes = same;
-      below = subst (λ (x : ℕ). x < 2 ^ size left.votes.t) (sym everybody) (first_of-lt (size left.votes.t) room);
+      below = everybody_below left.votes (size left.votes.t) left.set refl everybody;
       above =
           subst (Above left.votes.t left.votes.rows.now) (sym (everybody ∙ first_of-all (size left.votes.t) room))
           (above_all left.votes.t left.votes.rows.now);
@@ -108,13 +112,23 @@ module _ (left : Remaining) (below : left.set < 2 ^ size left.votes.t) where
   closed : NobodyShort (t + 1) left.set left.counts.now → Closed t rows left.set
   closed nobody = record { accepted = λ k l y. omega (arith, count_of k l, nobody.enough k y) }
 
+  -- one who is struck: those left are a smaller set of the n members
+  module _ (i next : ℕ) (member : has left.set i ≡ true) (without : next ≡ striking left.set i) where
+    struck_less : next < left.set
+    struck_less =
+        let inside : i < size t = has_inside (size t) left.set i below member in
+        subst (λ (x : ℕ). x < left.set) (sym without) (striking_less left.set i narrow (lt_of_lt_of_le inside room) member)
+
+    pub struck_below : next < 2 ^ size t
+    struck_below = lt_trans struck_less below
+
   module _ (i : ℕ) (first : Short (t + 1) left.set left.counts.now i) where
     inside : i < size t
     inside = has_inside (size t) left.set i below first.member
 
     module _ (next : Remaining) (strike : AfterStrike t rows left.set i next.set next.counts.now) where
       less : next.set < left.set
-      less = subst (λ (x : ℕ). x < left.set) (sym strike.without) (striking_less left.set i narrow (lt_of_lt_of_le inside room) first.member)
+      less = struck_less i next.set first.member strike.without
 
       keeps : (k : ℕ) → k < size t → has left.set k ≡ true → suc t ≤ votes t rows left.set k → has next.set k ≡ true
       keeps k l y v =
@@ -145,7 +159,7 @@ module _ (station : Votes) (left : Remaining) (going : Going station left) where
       going_on same =
           record {
             same_votes = same ∙ going.same_votes;
-            below = subst (λ (v : Votes). next.set < 2 ^ size v.t) (sym same) (lt_trans going_less going.below);
+            below = subst (λ (v : Votes). next.set < 2 ^ size v.t) (sym same) (struck_below left going.below i next.set first.member strike.without);
             above =
                 subst (λ (v : Votes). Above v.t v.rows.now next.set) (sym same)
                 (above_strike left.votes.t left.votes.rows.now left.set next.set going.above (keeps left going.below i first next strike));

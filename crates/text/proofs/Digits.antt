@@ -110,14 +110,21 @@ module _ {n k count : ℕ} (c : Counted n k count) (less : k < 9) where
         few = omega (arith, c.few);
       })
 
-  -- at the first power that is not reached the count is that of the digits
-  pub counted_done : n < get_or tens k 0 → count ≡ length (digits 10 n)
-  counted_done h =
+  pub counted_same : n < get_or tens k 0 → Counted n (k + 1) count
+  counted_same h =
       let now : n < 10 ^ suc k = rw (power_at k less) at h in
-      elim (test (ltb n (10 ^ k))) [
-        | inl e ↦ c.beyond (ltb-true n (10 ^ k) e)
-        | inr e ↦ let high : 10 ^ k ≤ n = ltb-false n (10 ^ k) e in c.reached high ∙ sym (digits_exact k 10 n (omega (arith, less)) high now)
-      ]
+      rw add-one (record {
+        reached = λ high. absurd (omega (arith, now, high));
+        beyond = λ _. elim (test (ltb n (10 ^ k))) [
+          | inl e ↦ c.beyond (ltb-true n (10 ^ k) e)
+          | inr e ↦ let high : 10 ^ k ≤ n = ltb-false n (10 ^ k) e in c.reached high ∙ sym (digits_exact k 10 n (omega (arith, less)) high now)
+        ];
+        few = omega (arith, c.few);
+      })
+
+  -- so at the first power that is not reached the count is that of the digits
+  pub counted_done : n < get_or tens k 0 → count ≡ length (digits 10 n)
+  counted_done h = let now : n < 10 ^ suc k = rw (power_at k less) at h in (counted_same h).beyond (rw add-one now)
 
 pub counted_all : {n k count : ℕ} → Counted n k count → k ≡ 9 → n < 4294967296 → count ≡ length (digits 10 n)
 counted_all {n} {k} {count} c e fits = elim (test (ltb n (10 ^ k))) [

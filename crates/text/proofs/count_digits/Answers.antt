@@ -1,7 +1,7 @@
 -- `text::count_digits`: a power that the number reaches counts; at the first that it does not, and after all, the count is that of the digits.
 -- Assumes nothing.
 use Rattle.std.proofs.Common.{arith}
-use Rattle.text.proofs.Digits.{counted_none, counted_more, counted_done, counted_all}
+use Rattle.text.proofs.Digits.{counted_none, counted_done, counted_all}
 use Rattle.text.proofs.count_digits.Goals as goal
 
 pub loop-power-init : goal.loop-power-init
